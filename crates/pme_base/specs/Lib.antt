@@ -1,0 +1,4 @@
+pub mod Places
+pub mod Refusals
+pub mod Steps
+pub use Rattle.pme_terms.specs.Counts

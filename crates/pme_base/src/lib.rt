@@ -1,0 +1,21 @@
+// What every crate above speaks in: byte lists and lists, the places of a file, refusals with their
+// causes, and the outside as three traits (files, random bytes, sinks) with objects in memory and real ones.
+#![tactic(auto)]
+
+mod bytes;
+mod memory_error;
+mod place;
+mod refusal;
+mod rows;
+mod text;
+mod words;
+
+pub use bytes::Bytes;
+pub use memory_error::OutOfMemory;
+pub use place::{OrdinalTooLarge, Place, PlaceKind};
+pub use refusal::{
+    Cause, Detail, ItemWord, PagePart, Refusal, StructName, ThriftFault, plain_refusal, refusal_at,
+};
+pub use rows::Rows;
+pub use text::Text;
+pub use words::Words;
