@@ -1,0 +1,10 @@
+use Rattle.std.proofs.Common.{◌≡◌, length}
+use Rattle.command_line.specs.Options.{value_of}
+use Rattle.command_line.proofs.options.value_of.Given as goal
+
+-- what is sought stands in the options that are left
+abbrev pub invariant-loop-rest : goal.invariant-loop-rest
+invariant-loop-rest l = value_of l.name l.options ≡ value_of l.name l.rest
+
+abbrev pub decreases-loop-rest : goal.decreases-loop-rest
+decreases-loop-rest l = length l.rest

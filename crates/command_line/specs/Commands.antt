@@ -1,0 +1,37 @@
+-- The command that a line is: nothing where its words are no line of the table.
+use Rattle.std.specs.Prelude.{ℕ, List, [], ◌∷◌, Option, Some, None, codes, if◌then◌else◌}
+use Rattle.command_line.specs.declared.command.Command.{Command}
+use Rattle.command_line.specs.declared.command.Command.TheVariants as command
+use Rattle.command_line.specs.declared.verb.Verb.{Verb}
+use Rattle.command_line.specs.declared.verb.Verb.TheVariants.{Module}
+use Rattle.command_line.specs.Verbs.{verb_of}
+use Rattle.command_line.specs.Options.{value_of, are_options}
+use Rattle.command_line.specs.Values.{key_of_hex, associated_data_of_hex}
+
+-- each of three values, where all are there
+abbrev pub with_three : {A B C D : Type 0} → Option A → Option B → Option C → (A → B → C → Option D) → Option D
+with_three (Some a) (Some b) (Some c) make = make a b c
+with_three _ _ _ make = None
+
+abbrev pub module_with : List ℕ → List ℕ → List ℕ → Option Command
+module_with key associated_data file =
+    with_three (key_of_hex key) (associated_data_of_hex associated_data) (Some file)
+      (λ k a f. Some (command.Module k a f))
+
+abbrev pub module_of : List (List ℕ) → Option Command
+module_of options =
+    with_three (value_of (codes "--key") options) (value_of (codes "--aad") options) (value_of (codes "--file") options) module_with
+
+abbrev pub command_by : Verb → List (List ℕ) → Option Command
+command_by Module options = module_of options
+
+abbrev pub command_with : Verb → List (List ℕ) → Option Command
+command_with verb options = if are_options verb options then command_by verb options else None
+
+abbrev pub command_of : List (List ℕ) → Option Command
+command_of [] = None
+command_of (first ∷ options) = after_verb (verb_of first)
+  where
+    after_verb : Option Verb → Option Command
+    after_verb None = None
+    after_verb (Some verb) = command_with verb options

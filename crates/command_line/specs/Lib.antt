@@ -1,0 +1,4 @@
+pub mod Verbs
+pub mod Options
+pub mod Values
+pub mod Commands

@@ -1,0 +1,84 @@
+ghost use Rattle.std.specs.Prelude.{◌≡◌, IfOk};
+ghost use Rattle.command_line.specs.Commands as defined;
+
+use crate::options::{are_options, value_of};
+use crate::values::{associated_data_of_hex, key_of_hex};
+use crate::verb::{Verb, verb_of};
+use pme_base::{Bytes, OutOfMemory, Text, Words};
+use std::alloc::Global;
+
+/// What a line asks for.
+#[derive(Drop)]
+pub enum Command {
+    /// Open the one module that fills `file`, sealed under `key` with `associated_data`.
+    Module {
+        key: Bytes,
+        associated_data: Bytes,
+        file: Text,
+    },
+}
+
+/// The command that the words are, or None where they are no line of the table.
+pub fn command_of(alloc: Global, words: &Words) -> Result<Option<Command>, OutOfMemory>
+    ensures { IfOk result (λ command. command ≡ defined.command_of words.now) }
+{
+    match words.as_slice() {
+        [first, options @ ..] => match verb_of(first.as_str()) {
+            Some(verb) => command_with(alloc, verb, options),
+            None => Ok(None),
+        },
+        [] => Ok(None),
+    }
+}
+
+fn command_with(
+    alloc: Global,
+    verb: Verb,
+    options: &[Text],
+) -> Result<Option<Command>, OutOfMemory>
+    ensures { IfOk result (λ command. command ≡ defined.command_with verb options.now) }
+{
+    if !are_options(verb, options) {
+        return Ok(None);
+    }
+    match verb {
+        Verb::Module => module_of(alloc, options),
+    }
+}
+
+fn module_of(alloc: Global, options: &[Text]) -> Result<Option<Command>, OutOfMemory>
+    ensures { IfOk result (λ command. command ≡ defined.module_of options.now) }
+{
+    let Some(key) = value_of("--key", options) else {
+        return Ok(None);
+    };
+    let Some(data) = value_of("--aad", options) else {
+        return Ok(None);
+    };
+    let Some(file) = value_of("--file", options) else {
+        return Ok(None);
+    };
+    module_with(alloc, key, data, file)
+}
+
+fn module_with(
+    alloc: Global,
+    key: &str,
+    associated_data: &str,
+    file: &str,
+) -> Result<Option<Command>, OutOfMemory>
+    ensures { IfOk result (λ command. command ≡ defined.module_with key.now associated_data.now file.now) }
+{
+    let Some(key) = key_of_hex(alloc, key)? else {
+        return Ok(None);
+    };
+    let Some(associated_data) = associated_data_of_hex(alloc, associated_data)? else {
+        return Ok(None);
+    };
+    let file = Text::copy_of(alloc, file)?;
+    Ok(Some(Command::Module {
+        key,
+        associated_data,
+        file,
+    }))
+}

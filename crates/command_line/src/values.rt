@@ -1,0 +1,48 @@
+ghost use Rattle.std.specs.Prelude.{◌≡◌, IfOk};
+ghost use Rattle.command_line.specs.Values as defined;
+
+use hex::FromHexError;
+use pme_base::{Bytes, OutOfMemory};
+use std::alloc::Global;
+
+/// The bytes that hex text of either case spells.
+pub fn bytes_of_hex(alloc: Global, text: &str) -> Result<Option<Bytes>, OutOfMemory>
+    ensures { IfOk result (λ bytes. bytes ≡ defined.bytes_of_hex text.now) }
+{
+    match hex::decode(alloc, text) {
+        Ok(bytes) => Ok(Some(Bytes::from_vec(bytes))),
+        Err(FromHexError::OutOfMemory) => Err(OutOfMemory),
+        Err(_) => Ok(None),
+    }
+}
+
+/// An AES key of 16, 24 or 32 bytes in hex.
+pub fn key_of_hex(alloc: Global, text: &str) -> Result<Option<Bytes>, OutOfMemory>
+    ensures { IfOk result (λ key. key ≡ defined.key_of_hex text.now) }
+{
+    match bytes_of_hex(alloc, text)? {
+        None => Ok(None),
+        Some(bytes) => {
+            let n = bytes.len();
+            if n == 16 || n == 24 || n == 32 {
+                return Ok(Some(bytes));
+            }
+            Ok(None)
+        }
+    }
+}
+
+/// Associated data of at most 4,096 bytes in hex.
+pub fn associated_data_of_hex(alloc: Global, text: &str) -> Result<Option<Bytes>, OutOfMemory>
+    ensures { IfOk result (λ bytes. bytes ≡ defined.associated_data_of_hex text.now) }
+{
+    match bytes_of_hex(alloc, text)? {
+        None => Ok(None),
+        Some(bytes) => {
+            if bytes.len() > 4096 {
+                return Ok(None);
+            }
+            Ok(Some(bytes))
+        }
+    }
+}

@@ -1,0 +1,35 @@
+ghost use Rattle.std.specs.Prelude.{◌≡◌};
+ghost use Rattle.command_line.specs.Verbs as defined;
+
+/// A command, by the first word of its line.
+#[derive(Clone, Copy, Drop)]
+pub enum Verb {
+    Module,
+}
+
+/// The command that `word` names.
+pub fn verb_of(word: &str) -> Option<Verb>
+    ensures { result ≡ defined.verb_of word.now }
+{
+    match word {
+        "module" => Some(Verb::Module),
+        _ => None,
+    }
+}
+
+/// Whether the command has an option of this name.
+pub fn takes(verb: Verb, name: &str) -> bool
+    ensures { result ≡ defined.takes verb name.now }
+{
+    match verb {
+        Verb::Module => {
+            if name == "--key" {
+                return true;
+            }
+            if name == "--aad" {
+                return true;
+            }
+            name == "--file"
+        }
+    }
+}
