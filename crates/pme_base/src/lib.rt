@@ -4,6 +4,7 @@
 
 mod bytes;
 mod memory_error;
+mod outside;
 mod place;
 mod refusal;
 mod rows;
@@ -12,6 +13,7 @@ mod words;
 
 pub use bytes::Bytes;
 pub use memory_error::OutOfMemory;
+pub use outside::{Failed, Files, Random, Sink, Trouble};
 pub use place::{OrdinalTooLarge, Place, PlaceKind};
 pub use refusal::{
     Cause, Detail, ItemWord, PagePart, Refusal, StructName, ThriftFault, plain_refusal, refusal_at,

@@ -1,0 +1,59 @@
+-- What the outside means: published files, pending bytes, bytes still to come and bytes written. An object that
+-- doesn't tell its contents has None for them, and then each word here gives None.
+use Rattle.std.specs.Prelude.{◌≡◌, ℕ, ◌+◌, ◌-◌, ◌^◌, ◌<◌, ◌≤◌, min, List, [], ◌++◌, take, drop, length, Option, None, Some, unwrap_or, option_map, Result, Ok, Err, IsErrOf}
+use Rattle.std.specs.Cmp.Lexicographic.{slice_cmp}
+use Rattle.std.specs.Ordering.{nat_cmp}
+use Rattle.std.specs.FinMap.{FinMap, get, insert}
+use Rattle.pme_base.specs.declared.outside.Trouble.{Trouble}
+use Rattle.pme_base.specs.declared.outside.Trouble.TheVariants.{Failed}
+use Rattle.pme_terms.specs.Counts.{Rose}
+
+-- the published files: a finite map from names to bytes
+abbrev pub Published : Type 0
+Published = FinMap (slice_cmp nat_cmp) (List ℕ)
+
+-- the bytes of a file, none where it isn't published
+abbrev pub bytes_of : Published → List ℕ → List ℕ
+bytes_of files name = unwrap_or (get files name) []
+
+-- no pending bytes
+abbrev pub nothing_pending : Option Published → Option (List ℕ)
+nothing_pending files = option_map (λ _. []) files
+
+-- bytes behind other bytes
+abbrev pub followed_by : List ℕ → Option (List ℕ) → Option (List ℕ)
+followed_by bytes before = option_map (λ all. all ++ bytes) before
+
+-- the files with the pending bytes as the file of this name
+abbrev pub with_file : Option Published → List ℕ → Option (List ℕ) → Option Published
+with_file (Some files) name (Some bytes) = Some (insert files name bytes)
+with_file (Some files) name None = None
+with_file None name bytes = None
+
+-- the count of bytes given after a read, which stays at the last value of 64 bits
+abbrev pub given_after : ℕ → Result ℕ Trouble → ℕ
+given_after given (Ok count) = min (given + count) (2 ^ 64 - 1)
+given_after given (Err trouble) = given
+
+-- so many bytes at the front of a buffer are those of a file from a place on: as many as asked or as there are, and
+-- none only where nothing was asked or nothing is there
+pub record IsReadAt (bytes : List ℕ) (at count : ℕ) (into : List ℕ) : Type 0 where
+  pub front : take count into ≡ take count (drop at bytes)
+  pub within : count ≤ length bytes - at
+  pub nonzero : 0 < length into → at < length bytes → 0 < count
+
+-- bytes drawn are the next of those to come
+pub record IsDrawn (to_come drawn : List ℕ) : Type 0 where
+  pub enough : length drawn ≤ length to_come
+  pub next : drawn ≡ take (length drawn) to_come
+
+-- a front of the bytes was put behind those written before
+pub record PutsFront (bytes : List ℕ) (before after : Option (List ℕ)) : Type 0 where
+  pub count : ℕ
+  pub within : count ≤ length bytes
+  pub front : after ≡ followed_by (take count bytes) before
+
+-- a count of faults never falls, and a call answers Failed only where it rose
+pub record HasCause {T : Type 0} (before now : ℕ) (result : Result T Trouble) : Type 0 where
+  pub later : before ≤ now
+  pub failed : IsErrOf result Failed → Rose before now
