@@ -1,5 +1,6 @@
 ghost use Rattle.std.specs.Prelude.{◌≡◌, [], ◌++◌, IfOk};
 
+use crate::bytes::Bytes;
 use crate::memory_error::OutOfMemory;
 use std::alloc::Global;
 use std::marker::Model;
@@ -41,5 +42,12 @@ impl Text {
         ensures { result.now ≡ self.now }
     {
         self.string.as_str()
+    }
+
+    /// The bytes of the text, without a copy.
+    pub fn into_bytes(self) -> Bytes
+        ensures { result ≡ self }
+    {
+        Bytes::from_vec(self.string.into_bytes())
     }
 }
