@@ -3,15 +3,23 @@
 #![tactic(auto)]
 
 mod bytes;
+mod calls;
+mod mem_files;
+mod mem_random;
+mod mem_sink;
 mod memory_error;
 mod outside;
 mod place;
 mod refusal;
+mod rest;
 mod rows;
 mod text;
 mod words;
 
 pub use bytes::Bytes;
+pub use mem_files::MemFiles;
+pub use mem_random::MemRandom;
+pub use mem_sink::MemSink;
 pub use memory_error::OutOfMemory;
 pub use outside::{Failed, Files, Random, Sink, Trouble};
 pub use place::{OrdinalTooLarge, Place, PlaceKind};

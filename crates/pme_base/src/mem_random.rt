@@ -1,0 +1,68 @@
+ghost use Rattle.std.specs.Prelude.{◌≡◌, ◌<◌, ◌≤◌, ◌↔◌, ◌⊎◌, ◌∷◌, ◌++◌, [], true, length, drop, Some, option_map, is_err, OnOk, OnErr, IfSome, IsErr};
+ghost use Rattle.pme_base.specs.Outside.{IsDrawn};
+ghost use Rattle.pme_base.specs.Memory.{mem_to_come, no_calls, is_failing, called};
+ghost use Rattle.pme_terms.specs.Counts.{Rose};
+
+use crate::bytes::Bytes;
+use crate::calls::Calls;
+use crate::memory_error::OutOfMemory;
+use crate::outside::{Failed, Random};
+use crate::rest::rest_from;
+use std::alloc::Global;
+
+/// A source of known bytes, for tests. It tells them, and any of its calls can be set to fail.
+#[derive(Drop)]
+pub struct MemRandom {
+    calls: Calls,
+    bytes: Bytes,
+    next: u64,
+}
+
+impl MemRandom {
+    /// A source with `bytes` still to come.
+    pub fn new(alloc: Global, bytes: Bytes) -> MemRandom
+        ensures to_come { mem_to_come result ≡ bytes }
+        ensures calls { result.calls ≡ no_calls }
+    {
+        MemRandom {
+            calls: Calls::new(alloc),
+            bytes,
+            next: 0,
+        }
+    }
+
+    /// Sets the call of `fill` of this number to fail, counted from 0 since the object was made.
+    pub fn fail(&mut self, call: u64) -> Result<(), OutOfMemory>
+        ensures ok { OnOk result (self.new.calls ≡ record self.old.calls { failing = self.old.calls.failing ++ call ∷ [] }) }
+        ensures unchanged { OnErr result (self.new.calls ≡ self.old.calls) }
+        ensures to_come { mem_to_come self.new ≡ mem_to_come self.old }
+    {
+        self.calls.fail(call)
+    }
+}
+
+impl Random for MemRandom {
+    ghost to_come = { λ m. Some (mem_to_come m) };
+
+    ghost faults = { λ m. m.calls.faults };
+
+    fn fill(&mut self, into: &mut [u8]) -> Result<(), Failed>
+        ensures told { OnOk result (IsDrawn (mem_to_come self.old) into.new) }
+        ensures rest { OnOk result (Some (mem_to_come self.new) ≡ option_map (drop (length into.new)) (Some (mem_to_come self.old))) }
+        ensures later { self.old.calls.faults ≤ self.new.calls.faults }
+        ensures failed { OnErr result (Rose self.old.calls.faults self.new.calls.faults) }
+        ensures fails { IsErr result ↔ ((is_failing self.old.calls ≡ true) ⊎ (length (mem_to_come self.old) < length into.new)) }
+        ensures unchanged { OnErr result (mem_to_come self.new ≡ mem_to_come self.old) }
+        ensures calls { self.new.calls ≡ called (is_err result) self.old.calls }
+    {
+        self.calls.begin()?;
+        let rest = rest_from(self.bytes.as_slice(), self.next);
+        if rest.len() < into.len() {
+            self.calls.raise();
+            return Err(Failed);
+        }
+        into.copy_from_slice(&rest[..into.len()]);
+        self.next += into.len() as u64;
+        Ok(())
+    }
+}
