@@ -1,0 +1,130 @@
+-- The table of causes: the number that the program ends with, the name, and the class of the line.
+use Rattle.std.specs.Prelude.{ℕ, List, codes}
+use Rattle.pme_base.specs.declared.refusal.Cause.{Cause}
+use Rattle.pme_base.specs.declared.refusal.Cause.TheVariants.{Truncated, BadLength, BadTag, BadThrift, MissingField, BadField, BadMagic, BadFooterLength, NotEncrypted, PrefixNeeded, PrefixUnused, PrefixDiffers, FooterKeyMissing, AlgorithmRefused, Unsupported, Mismatch, BadPage, Hidden, NoSuchColumn, BadMaterial, NoMaterial, WrapTag, KeyLength, NotExternal, Denied, ServiceFault, BadPolicy, FileExists, NonceRepeated, BadTable, BadRing, BadKeys, TooLarge, NoFile, ReadFault, WriteFault, RandomFault, Usage, OutOfMemory}
+use Rattle.refusal_lines.specs.declared.cause_table.Class.{Class}
+use Rattle.refusal_lines.specs.declared.cause_table.Class.TheVariants.{A, B, C}
+
+abbrev pub status_number : Cause → ℕ
+status_number Truncated = 1
+status_number BadLength = 2
+status_number BadTag = 3
+status_number BadThrift = 4
+status_number MissingField = 5
+status_number BadField = 6
+status_number BadMagic = 7
+status_number BadFooterLength = 8
+status_number NotEncrypted = 9
+status_number PrefixNeeded = 10
+status_number PrefixUnused = 11
+status_number PrefixDiffers = 12
+status_number FooterKeyMissing = 13
+status_number AlgorithmRefused = 14
+status_number Unsupported = 15
+status_number Mismatch = 16
+status_number BadPage = 17
+status_number Hidden = 18
+status_number NoSuchColumn = 19
+status_number BadMaterial = 20
+status_number NoMaterial = 21
+status_number WrapTag = 22
+status_number KeyLength = 23
+status_number NotExternal = 24
+status_number Denied = 25
+status_number ServiceFault = 26
+status_number BadPolicy = 31
+status_number FileExists = 32
+status_number NonceRepeated = 33
+status_number BadTable = 40
+status_number BadRing = 42
+status_number BadKeys = 43
+status_number TooLarge = 50
+status_number NoFile = 60
+status_number ReadFault = 61
+status_number WriteFault = 62
+status_number RandomFault = 63
+status_number Usage = 64
+status_number OutOfMemory = 70
+
+abbrev pub cause_name : Cause → List ℕ
+cause_name Truncated = codes "Truncated"
+cause_name BadLength = codes "BadLength"
+cause_name BadTag = codes "BadTag"
+cause_name BadThrift = codes "BadThrift"
+cause_name MissingField = codes "MissingField"
+cause_name BadField = codes "BadField"
+cause_name BadMagic = codes "BadMagic"
+cause_name BadFooterLength = codes "BadFooterLength"
+cause_name NotEncrypted = codes "NotEncrypted"
+cause_name PrefixNeeded = codes "PrefixNeeded"
+cause_name PrefixUnused = codes "PrefixUnused"
+cause_name PrefixDiffers = codes "PrefixDiffers"
+cause_name FooterKeyMissing = codes "FooterKeyMissing"
+cause_name AlgorithmRefused = codes "AlgorithmRefused"
+cause_name Unsupported = codes "Unsupported"
+cause_name Mismatch = codes "Mismatch"
+cause_name BadPage = codes "BadPage"
+cause_name Hidden = codes "Hidden"
+cause_name NoSuchColumn = codes "NoSuchColumn"
+cause_name BadMaterial = codes "BadMaterial"
+cause_name NoMaterial = codes "NoMaterial"
+cause_name WrapTag = codes "WrapTag"
+cause_name KeyLength = codes "KeyLength"
+cause_name NotExternal = codes "NotExternal"
+cause_name Denied = codes "Denied"
+cause_name ServiceFault = codes "ServiceFault"
+cause_name BadPolicy = codes "BadPolicy"
+cause_name FileExists = codes "FileExists"
+cause_name NonceRepeated = codes "NonceRepeated"
+cause_name BadTable = codes "BadTable"
+cause_name BadRing = codes "BadRing"
+cause_name BadKeys = codes "BadKeys"
+cause_name TooLarge = codes "TooLarge"
+cause_name NoFile = codes "NoFile"
+cause_name ReadFault = codes "ReadFault"
+cause_name WriteFault = codes "WriteFault"
+cause_name RandomFault = codes "RandomFault"
+cause_name Usage = codes "Usage"
+cause_name OutOfMemory = codes "OutOfMemory"
+
+-- A: the line tells the file, the place and the offset. B: it tells the file. C: it tells the cause alone.
+abbrev pub class_of : Cause → Class
+class_of Truncated = A
+class_of BadLength = A
+class_of BadTag = A
+class_of BadThrift = A
+class_of MissingField = A
+class_of BadField = A
+class_of BadMagic = A
+class_of BadFooterLength = A
+class_of NotEncrypted = B
+class_of PrefixNeeded = B
+class_of PrefixUnused = B
+class_of PrefixDiffers = B
+class_of FooterKeyMissing = B
+class_of AlgorithmRefused = B
+class_of Unsupported = A
+class_of Mismatch = A
+class_of BadPage = A
+class_of Hidden = B
+class_of NoSuchColumn = B
+class_of BadMaterial = A
+class_of NoMaterial = A
+class_of WrapTag = A
+class_of KeyLength = A
+class_of NotExternal = B
+class_of Denied = B
+class_of ServiceFault = C
+class_of BadPolicy = B
+class_of FileExists = B
+class_of NonceRepeated = B
+class_of BadTable = B
+class_of BadRing = B
+class_of BadKeys = B
+class_of TooLarge = A
+class_of NoFile = B
+class_of ReadFault = C
+class_of WriteFault = C
+class_of RandomFault = C
+class_of Usage = C
+class_of OutOfMemory = C

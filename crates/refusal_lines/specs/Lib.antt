@@ -1,0 +1,3 @@
+pub mod CauseRows
+pub mod DetailText
+pub mod RefusalText

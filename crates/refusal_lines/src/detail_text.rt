@@ -1,0 +1,94 @@
+ghost use Rattle.std.specs.Prelude.{◌≡◌, ◌++◌, OnOk, codes};
+ghost use Rattle.std.specs.Fmt.{decimal, signed_decimal};
+ghost use Rattle.hex.specs.Hex.{encode_lower};
+ghost use Rattle.refusal_lines.specs.DetailText as defined;
+
+use crate::pieces::{
+    push_signed, push_spaced_bytes, push_spaced_decimal, push_spaced_hex, push_spaced_signed,
+    push_spaced_text, push_text,
+};
+use crate::words::{fault_word, item_word, part_word, struct_word};
+use pme_base::{Bytes, Detail, OutOfMemory, StructName};
+use std::alloc::Global;
+
+/// Adds the values of a refusal, each after a space, and nothing where there are none.
+/// A name without bytes is a value: its space is added.
+pub fn push_detail(alloc: Global, line: &mut Bytes, detail: &Detail) -> Result<(), OutOfMemory>
+    ensures { OnOk result (line.new ≡ line.old ++ defined.detail_text detail.now) }
+{
+    match detail {
+        Detail::Nothing => Ok(()),
+        Detail::Pair(first, second) => push_two_decimals(alloc, line, *first, *second),
+        Detail::Signed(found, wanted) => push_two_signed(alloc, line, *found, *wanted),
+        Detail::Tags(expected, stored) => push_two_hexes(alloc, line, expected, stored),
+        Detail::Field(name, number) => push_field(alloc, line, *name, *number),
+        Detail::Thrift(fault) => push_spaced_text(line, fault_word(*fault)),
+        Detail::Part(part, number) => {
+            push_spaced_text(line, part_word(*part))?;
+            push_spaced_decimal(alloc, line, *number)
+        }
+        Detail::Nonce(nonce) => push_spaced_hex(alloc, line, nonce),
+        Detail::Name(name) => push_spaced_bytes(line, name.as_slice()),
+        Detail::Names(first, second) => {
+            push_spaced_bytes(line, first.as_slice())?;
+            push_spaced_bytes(line, second.as_slice())
+        }
+        Detail::Hexes(first, second) => {
+            push_two_hexes(alloc, line, first.as_slice(), second.as_slice())
+        }
+        Detail::Item(entry, word) => {
+            push_spaced_decimal(alloc, line, *entry)?;
+            push_spaced_text(line, item_word(*word))
+        }
+        Detail::Entry(row, field) => push_two_decimals(alloc, line, *row, *field),
+    }
+}
+
+fn push_two_decimals(
+    alloc: Global,
+    line: &mut Bytes,
+    first: u64,
+    second: u64,
+) -> Result<(), OutOfMemory>
+    ensures { OnOk result (line.new ≡ line.old ++ defined.spaced_pair (decimal first) (decimal second)) }
+{
+    push_spaced_decimal(alloc, line, first)?;
+    push_spaced_decimal(alloc, line, second)
+}
+
+fn push_two_signed(
+    alloc: Global,
+    line: &mut Bytes,
+    found: i64,
+    wanted: i64,
+) -> Result<(), OutOfMemory>
+    ensures { OnOk result (line.new ≡ line.old ++ defined.spaced_pair (signed_decimal found) (signed_decimal wanted)) }
+{
+    push_spaced_signed(alloc, line, found)?;
+    push_spaced_signed(alloc, line, wanted)
+}
+
+fn push_two_hexes(
+    alloc: Global,
+    line: &mut Bytes,
+    first: &[u8],
+    second: &[u8],
+) -> Result<(), OutOfMemory>
+    ensures { OnOk result (line.new ≡ line.old ++ defined.spaced_pair (encode_lower first.now) (encode_lower second.now)) }
+{
+    push_spaced_hex(alloc, line, first)?;
+    push_spaced_hex(alloc, line, second)
+}
+
+fn push_field(
+    alloc: Global,
+    line: &mut Bytes,
+    name: StructName,
+    number: i16,
+) -> Result<(), OutOfMemory>
+    ensures { OnOk result (line.new ≡ line.old ++ defined.spaced (defined.struct_word name ++ codes "." ++ signed_decimal number)) }
+{
+    push_spaced_text(line, struct_word(name))?;
+    push_text(line, ".")?;
+    push_signed(alloc, line, i64::from(number))
+}

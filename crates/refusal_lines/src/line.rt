@@ -1,0 +1,65 @@
+ghost use Rattle.std.specs.Prelude.{◌≡◌, ◌++◌, OnOk, IfOk, codes};
+ghost use Rattle.std.specs.Fmt.{decimal};
+ghost use Rattle.refusal_lines.specs.CauseRows as rows;
+ghost use Rattle.refusal_lines.specs.DetailText.{detail_text};
+ghost use Rattle.refusal_lines.specs.RefusalText as defined;
+
+use crate::cause_table::{Class, cause_name, class_of, status_number};
+use crate::detail_text::push_detail;
+use crate::pieces::{push_decimal, push_text};
+use crate::place_text::push_place;
+use pme_base::{Bytes, Cause, OutOfMemory, Refusal};
+use std::alloc::Global;
+
+/// The line of a refusal, with its line feed. `subject` is the name of the file that it is about; class C
+/// leaves it out.
+pub fn refusal_line(alloc: Global, refusal: &Refusal, subject: &[u8]) -> Result<Bytes, OutOfMemory>
+    ensures { IfOk result (λ line. line ≡ defined.refusal_line refusal.now subject.now) }
+{
+    let mut line = Bytes::new(alloc);
+    push_cause(alloc, &mut line, refusal.cause)?;
+    push_class(alloc, &mut line, refusal, subject)?;
+    line.push(b'\n')?;
+    Ok(line)
+}
+
+fn push_cause(alloc: Global, line: &mut Bytes, cause: Cause) -> Result<(), OutOfMemory>
+    ensures { OnOk result (line.new ≡ line.old ++ (codes "refused " ++ decimal (rows.status_number cause) ++ codes " " ++ rows.cause_name cause)) }
+{
+    push_text(line, "refused ")?;
+    push_decimal(alloc, line, u64::from(status_number(cause)))?;
+    push_text(line, " ")?;
+    push_text(line, cause_name(cause))
+}
+
+fn push_class(
+    alloc: Global,
+    line: &mut Bytes,
+    refusal: &Refusal,
+    subject: &[u8],
+) -> Result<(), OutOfMemory>
+    ensures { OnOk result (line.new ≡ line.old ++ defined.class_text (rows.class_of refusal.now.cause) refusal.now subject.now) }
+{
+    match class_of(refusal.cause) {
+        Class::A => {
+            push_subject(line, subject)?;
+            push_text(line, " ")?;
+            push_place(alloc, line, &refusal.place)?;
+            push_text(line, " at ")?;
+            push_decimal(alloc, line, refusal.at)?;
+            push_detail(alloc, line, &refusal.detail)
+        }
+        Class::B => {
+            push_subject(line, subject)?;
+            push_detail(alloc, line, &refusal.detail)
+        }
+        Class::C => Ok(()),
+    }
+}
+
+fn push_subject(line: &mut Bytes, subject: &[u8]) -> Result<(), OutOfMemory>
+    ensures { OnOk result (line.new ≡ line.old ++ (codes " in " ++ subject.now)) }
+{
+    push_text(line, " in ")?;
+    line.extend(subject)
+}

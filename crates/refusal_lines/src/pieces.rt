@@ -1,0 +1,77 @@
+ghost use Rattle.std.specs.Prelude.{◌≡◌, ◌++◌, OnOk, OnErr, codes};
+ghost use Rattle.std.specs.Fmt.{decimal, signed_decimal};
+ghost use Rattle.hex.specs.Hex.{encode_lower};
+ghost use Rattle.refusal_lines.specs.DetailText.{spaced, spaced_pair};
+
+use pme_base::{Bytes, OutOfMemory};
+use std::alloc::Global;
+
+/// Adds a text.
+pub fn push_text(line: &mut Bytes, text: &str) -> Result<(), OutOfMemory>
+    ensures ok { OnOk result (line.new ≡ line.old ++ text.now) }
+    ensures unchanged { OnErr result (line.new ≡ line.old) }
+{
+    line.extend(text.as_bytes())
+}
+
+/// Adds a number in decimal.
+pub fn push_decimal(alloc: Global, line: &mut Bytes, number: u64) -> Result<(), OutOfMemory>
+    ensures ok { OnOk result (line.new ≡ line.old ++ decimal number) }
+    ensures unchanged { OnErr result (line.new ≡ line.old) }
+{
+    let text = number.to_string(alloc)?;
+    push_text(line, text.as_str())
+}
+
+/// Adds a number in decimal, after `-` where it is negative.
+pub fn push_signed(alloc: Global, line: &mut Bytes, number: i64) -> Result<(), OutOfMemory>
+    ensures ok { OnOk result (line.new ≡ line.old ++ signed_decimal number) }
+    ensures unchanged { OnErr result (line.new ≡ line.old) }
+{
+    let text = number.to_string(alloc)?;
+    push_text(line, text.as_str())
+}
+
+/// Adds bytes as lower-case hex, two digits a byte.
+pub fn push_hex(alloc: Global, line: &mut Bytes, bytes: &[u8]) -> Result<(), OutOfMemory>
+    ensures ok { OnOk result (line.new ≡ line.old ++ encode_lower bytes.now) }
+    ensures unchanged { OnErr result (line.new ≡ line.old) }
+{
+    let text = hex::encode(alloc, bytes)?;
+    push_text(line, text.as_str())
+}
+
+pub fn push_spaced_text(line: &mut Bytes, text: &str) -> Result<(), OutOfMemory>
+    ensures { OnOk result (line.new ≡ line.old ++ spaced text.now) }
+{
+    push_text(line, " ")?;
+    push_text(line, text)
+}
+
+pub fn push_spaced_bytes(line: &mut Bytes, bytes: &[u8]) -> Result<(), OutOfMemory>
+    ensures { OnOk result (line.new ≡ line.old ++ spaced bytes.now) }
+{
+    push_text(line, " ")?;
+    line.extend(bytes)
+}
+
+pub fn push_spaced_decimal(alloc: Global, line: &mut Bytes, number: u64) -> Result<(), OutOfMemory>
+    ensures { OnOk result (line.new ≡ line.old ++ spaced (decimal number)) }
+{
+    push_text(line, " ")?;
+    push_decimal(alloc, line, number)
+}
+
+pub fn push_spaced_signed(alloc: Global, line: &mut Bytes, number: i64) -> Result<(), OutOfMemory>
+    ensures { OnOk result (line.new ≡ line.old ++ spaced (signed_decimal number)) }
+{
+    push_text(line, " ")?;
+    push_signed(alloc, line, number)
+}
+
+pub fn push_spaced_hex(alloc: Global, line: &mut Bytes, bytes: &[u8]) -> Result<(), OutOfMemory>
+    ensures { OnOk result (line.new ≡ line.old ++ spaced (encode_lower bytes.now)) }
+{
+    push_text(line, " ")?;
+    push_hex(alloc, line, bytes)
+}
