@@ -42,6 +42,17 @@ pub record IsReadAt (bytes : List ℕ) (at count : ℕ) (into : List ℕ) : Type
   pub within : count ≤ length bytes - at
   pub nonzero : 0 < length into → at < length bytes → 0 < count
 
+-- so many bytes at the front of a buffer are those of a file from a place on, and fewer than asked only at its end
+pub record IsReadFull (bytes : List ℕ) (at count : ℕ) (into : List ℕ) : Type 0 where
+  pub front : take count into ≡ take count (drop at bytes)
+  pub within : count ≤ length bytes - at
+  pub whole : length bytes < 2 ^ 64 → count ≡ min (length into) (length bytes - at)
+
+-- a count of bytes given rose by so many, or to the last value of 64 bits
+pub record RoseBy (count before now : ℕ) : Type 0 where
+  pub least : min (before + count) (2 ^ 64 - 1) ≤ now
+  pub most : now ≤ before + count
+
 -- bytes drawn are the next of those to come
 pub record IsDrawn (to_come drawn : List ℕ) : Type 0 where
   pub enough : length drawn ≤ length to_come
