@@ -1,10 +1,12 @@
 ghost use Rattle.std.specs.Prelude.{◌≡◌, IfOk};
 ghost use Rattle.command_line.specs.Commands as defined;
 
+use crate::associated_data::AssociatedData;
 use crate::options::{are_options, value_of};
 use crate::values::{associated_data_of_hex, key_of_hex};
 use crate::verb::{Verb, verb_of};
-use pme_base::{Bytes, OutOfMemory, Text, Words};
+use aes_block::AesKey;
+use pme_base::{OutOfMemory, Text, Words};
 use std::alloc::Global;
 
 /// What a line asks for.
@@ -12,8 +14,8 @@ use std::alloc::Global;
 pub enum Command {
     /// Open the one module that fills `file`, sealed under `key` with `associated_data`.
     Module {
-        key: Bytes,
-        associated_data: Bytes,
+        key: AesKey,
+        associated_data: AssociatedData,
         file: Text,
     },
 }

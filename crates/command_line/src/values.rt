@@ -1,6 +1,8 @@
 ghost use Rattle.std.specs.Prelude.{◌≡◌, IfOk};
 ghost use Rattle.command_line.specs.Values as defined;
 
+use crate::associated_data::AssociatedData;
+use aes_block::AesKey;
 use hex::FromHexError;
 use pme_base::{Bytes, OutOfMemory};
 use std::alloc::Global;
@@ -17,32 +19,27 @@ pub fn bytes_of_hex(alloc: Global, text: &str) -> Result<Option<Bytes>, OutOfMem
 }
 
 /// An AES key of 16, 24 or 32 bytes in hex.
-pub fn key_of_hex(alloc: Global, text: &str) -> Result<Option<Bytes>, OutOfMemory>
+pub fn key_of_hex(alloc: Global, text: &str) -> Result<Option<AesKey>, OutOfMemory>
     ensures { IfOk result (λ key. key ≡ defined.key_of_hex text.now) }
 {
     match bytes_of_hex(alloc, text)? {
         None => Ok(None),
-        Some(bytes) => {
-            let n = bytes.len();
-            if n == 16 || n == 24 || n == 32 {
-                return Ok(Some(bytes));
-            }
-            Ok(None)
-        }
+        Some(bytes) => match AesKey::new(bytes.as_slice()) {
+            Ok(key) => Ok(Some(key)),
+            Err(_) => Ok(None),
+        },
     }
 }
 
 /// Associated data of at most 4,096 bytes in hex.
-pub fn associated_data_of_hex(alloc: Global, text: &str) -> Result<Option<Bytes>, OutOfMemory>
+pub fn associated_data_of_hex(
+    alloc: Global,
+    text: &str,
+) -> Result<Option<AssociatedData>, OutOfMemory>
     ensures { IfOk result (λ bytes. bytes ≡ defined.associated_data_of_hex text.now) }
 {
     match bytes_of_hex(alloc, text)? {
         None => Ok(None),
-        Some(bytes) => {
-            if bytes.len() > 4096 {
-                return Ok(None);
-            }
-            Ok(Some(bytes))
-        }
+        Some(bytes) => Ok(AssociatedData::new(bytes)),
     }
 }
