@@ -1,0 +1,3 @@
+pub mod Xors
+pub mod Products
+pub mod Numbers
