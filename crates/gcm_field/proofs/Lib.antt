@@ -1,0 +1,4 @@
+pub mod Vectors
+pub mod Folds
+pub mod Algebra
+pub mod Reversal

@@ -1,0 +1,2 @@
+pub use Rattle.pme_terms.specs.Polynomials
+pub mod Field
