@@ -1,14 +1,14 @@
 -- The field's product: linear in its first factor, with 1 as its unit, and associative.
-use Rattle.std.proofs.Common.{◌≡◌, ℕ, zero, suc, ◌+◌, ◌-◌, ◌*◌, ◌/◌, ◌%◌, ◌^◌, ◌<◌, ◌≤◌, bit_xor, refl, sym, ap, ◌∙◌, arith, add-zero}
+use Rattle.std.proofs.Common.{◌≡◌, ℕ, zero, suc, ◌+◌, ◌*◌, ◌/◌, ◌%◌, ◌^◌, ◌<◌, bit_xor, refl, sym, ap, ◌∙◌, arith}
 use Rattle.std.specs.Int.{bit_at}
-use Rattle.std.specs.Int.Bits.{xor_assoc, xor_self, xor_zero_l, xor_zero_r}
+use Rattle.std.specs.Int.Bits.{xor_zero_r}
 use Rattle.std.proofs.lemmas.Nat.{xor_lt, shl_below, pow_below, shr_split}
 use Rattle.std.proofs.lemmas.Nat.Bits.{bit_at-lt, bit_at_cat_low}
 use Rattle.pme_terms.specs.Polynomials.{product_below}
-use Rattle.pme_terms.proofs.Xors.{xor_swap, bit_times, pow-suc}
+use Rattle.pme_terms.proofs.Xors.{bit_times, pow-suc}
 use Rattle.pme_terms.proofs.Products.{product-none, product-more, product-xor_left, product-same, product_short, product-double, product_lt}
 use Rattle.gcm_field.specs.Field.{times_low, folded, field_mul}
-use Rattle.gcm_field.proofs.Folds.{reduced, reduced-xor, reduced_small, reduced_lt, reduced-double, xtimes, xtimes-xor, folded_small, folded-xor, bit_folds, times_low_lt}
+use Rattle.gcm_field.proofs.Folds.{reduced, reduced-xor, reduced_small, reduced_lt, reduced-double, xtimes, folded_small, times_low_lt}
 
 pub field_mul-xor : (a b c : ℕ) → field_mul (bit_xor a b) c ≡ bit_xor (field_mul a c) (field_mul b c)
 unfolding field_mul
@@ -45,18 +45,18 @@ field_mul-scaled p a c h =
 eight : (c : ℕ) → product_below 0x87 c 8 ≡ times_low c
 unfolding product_below times_low
 eight c =
-  let e0 : 1 * (c * 1) ≡ c = omega arith in
-  let e1 : 1 * (c * 2) ≡ c * 2 = omega arith in
-  let e2 : 1 * (c * 4) ≡ c * 4 = omega arith in
-  let e3 : 0 * (c * 8) ≡ 0 = omega arith in
-  let e4 : 0 * (c * 16) ≡ 0 = omega arith in
-  let e5 : 0 * (c * 32) ≡ 0 = omega arith in
-  let e6 : 0 * (c * 64) ≡ 0 = omega arith in
-  let e7 : 1 * (c * 128) ≡ c * 128 = omega arith in
-  let s = bit_xor (bit_xor c (c * 2)) (c * 4) in
-  let gone : bit_xor (bit_xor (bit_xor (bit_xor s 0) 0) 0) 0 ≡ s = xor_zero_r _ ∙ xor_zero_r _ ∙ xor_zero_r _ ∙ xor_zero_r s in
-  (λ i. bit_xor (bit_xor (bit_xor (bit_xor (bit_xor (bit_xor (bit_xor (e0 i) (e1 i)) (e2 i)) (e3 i)) (e4 i)) (e5 i)) (e6 i)) (e7 i))
-  ∙ ap (λ r. bit_xor r (c * 128)) gone
+    let e0 : 1 * (c * 1) ≡ c = omega arith in
+    let e1 : 1 * (c * 2) ≡ c * 2 = omega arith in
+    let e2 : 1 * (c * 4) ≡ c * 4 = omega arith in
+    let e3 : 0 * (c * 8) ≡ 0 = omega arith in
+    let e4 : 0 * (c * 16) ≡ 0 = omega arith in
+    let e5 : 0 * (c * 32) ≡ 0 = omega arith in
+    let e6 : 0 * (c * 64) ≡ 0 = omega arith in
+    let e7 : 1 * (c * 128) ≡ c * 128 = omega arith in
+    let s = bit_xor (bit_xor c (c * 2)) (c * 4) in
+    let gone : bit_xor (bit_xor (bit_xor (bit_xor s 0) 0) 0) 0 ≡ s = xor_zero_r _ ∙ xor_zero_r _ ∙ xor_zero_r _ ∙ xor_zero_r s in
+    (λ i. bit_xor (bit_xor (bit_xor (bit_xor (bit_xor (bit_xor (bit_xor (e0 i) (e1 i)) (e2 i)) (e3 i)) (e4 i)) (e5 i)) (e6 i)) (e7 i))
+    ∙ ap (λ r. bit_xor r (c * 128)) gone
 
 -- the product with x^7 + x^2 + x + 1
 low_product : (c : ℕ) → product_below 0x87 c 128 ≡ times_low c
@@ -87,9 +87,9 @@ unfolding times_low
 over t c h small =
     bit_times (λ t. reduced (product_below (times_low t) c 128) ≡ t * reduced (c * 2 ^ 128)) t h
     (let e : 0 * reduced (c * 2 ^ 128) ≡ 0 = omega arith in
-      ap reduced (product_short 0 c 0 128 (omega arith) ∙ product-none 0 c) ∙ reduced_small 0 (omega arith) ∙ sym e)
+    ap reduced (product_short 0 c 0 128 (omega arith) ∙ product-none 0 c) ∙ reduced_small 0 (omega arith) ∙ sym e)
     (let e : 1 * reduced (c * 2 ^ 128) ≡ reduced (c * 2 ^ 128) = omega arith in
-      ap reduced (low_product c) ∙ folded_low c small ∙ sym e)
+    ap reduced (low_product c) ∙ folded_low c small ∙ sym e)
 
 pub low_bits : (n k i : ℕ) → i < k → bit_at (n % 2 ^ k) i ≡ bit_at n i
 low_bits n k i h = sym (bit_at_cat_low (n / 2 ^ k) k (n % 2 ^ k) i h) ∙ ap (λ m. bit_at m i) (shr_split n k)
@@ -115,7 +115,7 @@ shift_lt b n hb hn =
     let bound : 2 ^ (128 + n) < 2 ^ 299 = pow_below (128 + n) 299 (omega arith) in
     omega arith
 
-reduced-suc : (b n : ℕ) → b < 2 ^ 128 → n < 128 → reduced (b * 2 ^ suc n) ≡ xtimes (reduced (b * 2 ^ n))
+pub reduced-suc : (b n : ℕ) → b < 2 ^ 128 → n < 128 → reduced (b * 2 ^ suc n) ≡ xtimes (reduced (b * 2 ^ n))
 reduced-suc b n hb hn =
     let wide : b * 2 ^ n < 2 ^ (128 + n) = shl_below b 128 n hb in
     let bound : 2 ^ (128 + n) < 2 ^ 299 = pow_below (128 + n) 299 (omega arith) in

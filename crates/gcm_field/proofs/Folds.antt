@@ -1,10 +1,9 @@
 -- Folding by the modulus of GHASH is linear, ends after two folds, and passes through doubling.
-use Rattle.std.proofs.Common.{◌≡◌, ℕ, zero, suc, ◌+◌, ◌*◌, ◌/◌, ◌%◌, ◌^◌, ◌<◌, ◌≤◌, bit_xor, refl, sym, ap, ◌∙◌, arith, lit<}
-use Rattle.std.specs.Int.{bit_at}
-use Rattle.std.specs.Int.Bits.{xor_assoc, xor_self, xor_zero_l, xor_zero_r}
-use Rattle.std.proofs.lemmas.Nat.{xor_comm, xor_lt, xor_shr, xor_mod, shl_below, pow_below, pow-add, shr_below}
+use Rattle.std.proofs.Common.{◌≡◌, ℕ, ◌+◌, ◌*◌, ◌/◌, ◌%◌, ◌^◌, ◌<◌, bit_xor, refl, sym, ap, ◌∙◌, arith}
+use Rattle.std.specs.Int.Bits.{xor_assoc, xor_zero_r}
+use Rattle.std.proofs.lemmas.Nat.{xor_comm, xor_lt, xor_shr, xor_mod, pow-add, shr_below}
 use lib.Bits.{xor_shifted}
-use Rattle.pme_terms.proofs.Xors.{xor_swap, xor_shl, xor_twice, bit_times}
+use Rattle.pme_terms.proofs.Xors.{xor_swap, xor_shl, bit_times}
 use Rattle.gcm_field.specs.Field.{times_low, folded}
 
 pub times_low-xor : (a b : ℕ) → times_low (bit_xor a b) ≡ bit_xor (times_low a) (times_low b)
@@ -22,7 +21,7 @@ times_low-double a =
     let g : a * 2 * 128 ≡ a * 128 * 2 = omega arith in
     (λ i. bit_xor (bit_xor (bit_xor (a * 2) (a * 2 * 2)) (f i)) (g i))
     ∙ sym (xor_shl (bit_xor (bit_xor a (a * 2)) (a * 4)) (a * 128) 1
-        ∙ ap (λ s. bit_xor s (a * 128 * 2)) (xor_shl (bit_xor a (a * 2)) (a * 4) 1 ∙ ap (λ s. bit_xor s (a * 4 * 2)) (xor_shl a (a * 2) 1)))
+    ∙ ap (λ s. bit_xor s (a * 128 * 2)) (xor_shl (bit_xor a (a * 2)) (a * 4) 1 ∙ ap (λ s. bit_xor s (a * 4 * 2)) (xor_shl a (a * 2) 1)))
 
 pub times_low_lt : (k a : ℕ) → a < 2 ^ k → times_low a < 2 ^ (k + 7)
 unfolding times_low
@@ -100,13 +99,13 @@ folded-double p =
     let parts : p % 2 ^ 128 * 2 ≡ t * 2 ^ 128 + m * 2 = omega arith in
     let small : m * 2 < 2 ^ 128 = omega arith in
     let before : folded (p * 2) ≡ bit_xor x (times_low t) =
-      (λ i. bit_xor (low i) (times_low (high i)))
-      ∙ ap (λ s. bit_xor (m * 2) s) (ap times_low (sym (xor_shifted h 1 t bit)) ∙ times_low-xor (h * 2) t ∙ ap (λ s. bit_xor s (times_low t)) (times_low-double h))
-      ∙ sym (xor_assoc (m * 2) (times_low h * 2) (times_low t)) in
+    (λ i. bit_xor (low i) (times_low (high i)))
+    ∙ ap (λ s. bit_xor (m * 2) s) (ap times_low (sym (xor_shifted h 1 t bit)) ∙ times_low-xor (h * 2) t ∙ ap (λ s. bit_xor s (times_low t)) (times_low-double h))
+    ∙ sym (xor_assoc (m * 2) (times_low h * 2) (times_low t)) in
     let after : folded p * 2 ≡ bit_xor (t * 2 ^ 128) x =
-      xor_shl (p % 2 ^ 128) (times_low h) 1
-      ∙ ap (λ s. bit_xor s (times_low h * 2)) (parts ∙ sym (xor_shifted t 128 (m * 2) small))
-      ∙ xor_assoc (t * 2 ^ 128) (m * 2) (times_low h * 2) in
+    xor_shl (p % 2 ^ 128) (times_low h) 1
+    ∙ ap (λ s. bit_xor s (times_low h * 2)) (parts ∙ sym (xor_shifted t 128 (m * 2) small))
+    ∙ xor_assoc (t * 2 ^ 128) (m * 2) (times_low h * 2) in
     ap folded before ∙ folded-xor x (times_low t) ∙ ap (λ s. bit_xor (folded x) s) (bit_folds t bit)
     ∙ xor_comm (folded x) (folded (t * 2 ^ 128)) ∙ sym (ap folded after ∙ folded-xor (t * 2 ^ 128) x)
 

@@ -2,3 +2,4 @@ pub mod Vectors
 pub mod Folds
 pub mod Algebra
 pub mod Reversal
+pub mod TableLemmas

@@ -1,7 +1,6 @@
 -- Numbers of 128 bits in the order of a block, first bit highest, and the polynomials that they stand for.
-use Rattle.std.proofs.Common.{◌≡◌, ℕ, zero, suc, ◌+◌, ◌-◌, ◌*◌, ◌/◌, ◌%◌, ◌^◌, ◌<◌, ◌≤◌, bit_xor, refl, sym, ap, ◌∙◌, arith, inl, inr}
+use Rattle.std.proofs.Common.{◌≡◌, ℕ, zero, suc, ◌+◌, ◌-◌, ◌*◌, ◌/◌, ◌%◌, ◌^◌, ◌<◌, bit_xor, refl, sym, ap, ◌∙◌, arith}
 use Rattle.std.specs.Int.{bit_at}
-use Rattle.std.specs.Int.Bits.{xor_zero_l, xor_zero_r}
 use Rattle.std.proofs.lemmas.Nat.{xor_lt, shl-shr}
 use Rattle.std.proofs.lemmas.Nat.Bits.{bit_at-lt, bit_at-suc, bit_at_lowest, bit_at_above, bit_at_xor, same_from_bits_below}
 use Rattle.pme_terms.specs.Polynomials.{number_below}
@@ -29,7 +28,7 @@ reversed-xor a b =
     same_from_bits_below 128 (reversed (bit_xor a b)) (bit_xor (reversed a) (reversed b)) (reversed_lt (bit_xor a b))
     (xor_lt 128 (reversed a) (reversed b) (reversed_lt a) (reversed_lt b))
     (λ i low. bit_at-reversed (bit_xor a b) i low ∙ bit_at_xor a b (127 - i)
-      ∙ sym (bit_at_xor (reversed a) (reversed b) i ∙ (λ j. (bit_at-reversed a i low j + bit_at-reversed b i low j) % 2)))
+    ∙ sym (bit_at_xor (reversed a) (reversed b) i ∙ (λ j. (bit_at-reversed a i low j + bit_at-reversed b i low j) % 2)))
 
 half_bit : (v i : ℕ) → v < 2 ^ 128 → i < 128 → bit_at (v / 2) (127 - i) ≡ bit_at (reversed v * 2) i
 half_bit v zero h low =

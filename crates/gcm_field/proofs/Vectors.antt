@@ -1,5 +1,5 @@
 -- Known answers, computed from the definitions.
-use Rattle.std.proofs.Common.{◌≡◌, ℕ, List, [], ◌∷◌, refl}
+use Rattle.std.proofs.Common.{◌≡◌, [], ◌∷◌, refl}
 use Rattle.gcm_field.specs.Field.{times_low, folded, field_mul, reversed, prod}
 use Rattle.pme_terms.specs.Polynomials.{product_below, number_below}
 

@@ -1,3 +1,4 @@
 pub mod Xors
 pub mod Products
 pub mod Numbers
+pub mod Bytes

@@ -3,7 +3,7 @@ use Rattle.std.proofs.Common.{◌≡◌, ℕ, zero, suc, ◌+◌, ◌*◌, ◌^�
 use Rattle.std.specs.Int.{bit_at}
 use Rattle.std.specs.Int.Bits.{xor_zero_r}
 use Rattle.std.proofs.lemmas.Nat.{xor_lt, pow_below, pow_pos, shl_below, shl-shr}
-use Rattle.std.proofs.lemmas.Nat.Bits.{bit_at-lt, bit_at-suc, bit_at_above, bit_at_lowest}
+use Rattle.std.proofs.lemmas.Nat.Bits.{bit_at-lt, bit_at-suc, bit_at_above, bit_at_lowest, bit_at-pow_other, bit_at-pow_same, bit_at-zero}
 use Rattle.pme_terms.specs.Polynomials.{product_below}
 use Rattle.pme_terms.proofs.Xors.{xor_swap, xor_shl, bit_at-xor_times, bit_times, times_xor, pow-suc}
 
@@ -85,3 +85,13 @@ product_lt a b m (suc n) h =
     bit_times (λ p. p * (b * 2 ^ n) < 2 ^ (m + n)) (bit_at a n) (bit_at-lt a n) (omega (arith, pow_pos (m + n))) (omega arith) in
     let sum : bit_xor (product_below a b n) (bit_at a n * (b * 2 ^ n)) < 2 ^ (m + n) = xor_lt (m + n) _ _ before term in
     rw (e, product-more a b n) (omega arith)
+
+-- a power of x as the first factor
+pub product-pow : (n b k : ℕ) → product_below (2 ^ n) b (suc n + k) ≡ b * 2 ^ n
+product-pow n b k =
+    let below : product_below (2 ^ n) b n ≡ 0 =
+      product-same (2 ^ n) 0 b n (λ i h. bit_at-pow_other n i (omega arith) ∙ sym (bit_at-zero i))
+      ∙ ap (product_below 0 b) (let e : n ≡ 0 + n = omega arith in e) ∙ product_short 0 b 0 n (omega arith) ∙ product-none 0 b in
+    let one : 1 * (b * 2 ^ n) ≡ b * 2 ^ n = omega arith in
+    product_short (2 ^ n) b (suc n) k (pow_below n (suc n) (omega arith))
+    ∙ product-more (2 ^ n) b n ∙ (λ i. bit_xor (below i) (bit_at-pow_same n i * (b * 2 ^ n))) ∙ one
