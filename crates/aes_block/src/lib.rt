@@ -1,0 +1,20 @@
+// AES by FIPS 197: a key of 16, 24 or 32 bytes, and blocks of 16 bytes under it.
+#![tactic(auto)]
+
+ghost use Rattle.std.specs.Prelude.{◌≡◌};
+ghost use Rattle.aes_block.specs.Aes.{aes};
+ghost use Rattle.aes_block.specs.Vectors.{example_block, example_key, example_128, example_192, example_256};
+
+use thiserror::Error;
+
+/// A key has another length than 16, 24 or 32 bytes.
+#[derive(Clone, Copy, Debug, PartialEq, Eq, Drop, Error)]
+#[error("BadKeyLength")]
+pub struct BadKeyLength;
+
+/// The law that `aes` of the contracts gives the example vectors of FIPS 197, appendix C.
+pub fn standard_vectors()
+    ensures aes_128 { aes (example_key 16) example_block ≡ example_128 }
+    ensures aes_192 { aes (example_key 24) example_block ≡ example_192 }
+    ensures aes_256 { aes (example_key 32) example_block ≡ example_256 }
+{}
