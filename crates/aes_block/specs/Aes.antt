@@ -2,7 +2,7 @@
 -- so that row r and column c stand at r + 4 * c (3.4), as in the block.
 use Rattle.std.specs.Prelude.{◌≡◌, ◌⊎◌, ℕ, zero, suc, ◌+◌, ◌-◌, ◌*◌, ◌/◌, ◌%◌, ◌&&◌, ◌==◌, nat_lt, if◌then◌else◌, bit_xor, List, [], ◌∷◌, ◌++◌, map, length, take, drop, slice_index}
 use Rattle.std.specs.List.{range_with_len}
-use lib.Lanes.{zip2}
+use Rattle.std.specs.Simd.Lanes.{zip2}
 use Rattle.aes_block.specs.Field.{field_mul, sbox}
 
 -- how many bytes a key may have
