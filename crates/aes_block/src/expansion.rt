@@ -12,12 +12,8 @@ const ROUND_CONSTANTS: [u8; 10] = [0x01, 0x02, 0x04, 0x08, 0x10, 0x20, 0x40, 0x8
 fn sub_word(word: [u8; 4]) -> [u8; 4]
     ensures { result ≡ map sbox word }
 {
-    let [a, b, c, d] = word;
     let mut lanes = [0; 64];
-    lanes[0] = a;
-    lanes[1] = b;
-    lanes[2] = c;
-    lanes[3] = d;
+    lanes[..4].copy_from_slice(&word);
     let lanes = sub_bytes(u8x64::from_array(lanes)).to_array();
     [lanes[0], lanes[1], lanes[2], lanes[3]]
 }

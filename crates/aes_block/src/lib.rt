@@ -10,14 +10,14 @@ ghost use Rattle.aes_block.specs.Aes.{aes};
 ghost use Rattle.aes_block.specs.Vectors.{example_block, example_key, example_128, example_192, example_256};
 
 mod expansion;
-pub mod key;
+mod key;
 mod lanes;
 mod rounds;
 mod substitution;
 #[cfg(test)]
 mod tests;
 
-pub use crate::key::{AesKey, BadKeyLength};
+pub use key::{AesKey, BadKeyLength};
 
 /// The law that `aes` of the contracts gives the example vectors of FIPS 197, appendix C.
 pub fn standard_vectors()

@@ -1,8 +1,8 @@
 // The S-box (FIPS 197, 5.1.1) of each byte of a vector.
 //
 // A byte is written over a basis in which it is a pair of elements i and k of the field of sixteen elements, and
-// its inverse needs inverses in that field only. The inverse of 0 is written 128, which is infinity: what is added
-// to it is not less, and its own inverse is found as 0.
+// its inverse needs inverses in that field only. The inverse of 0 is written 128, for infinity: a sum of it and a half
+// byte is 128 or more, and a look-up finds 0 there.
 ghost use Rattle.std.specs.Prelude.{◌≡◌, ◌/◌, ◌%◌, map};
 ghost use Rattle.aes_block.specs.Field.{sbox};
 
