@@ -1,6 +1,6 @@
 -- GHASH of one more block.
-use Rattle.std.proofs.Common.{◌≡◌, ℕ, zero, suc, ◌+◌, ◌^◌, ◌<◌, bit_xor, List, [], ◌∷◌, ◌++◌, length, refl, sym, ap, ◌∙◌, arith, length-append, lit<}
-use Rattle.std.specs.Int.Bits.{xor_assoc, xor_zero_r, xor_zero_l}
+use Rattle.std.proofs.Common.{◌≡◌, ℕ, zero, suc, ◌+◌, ◌^◌, ◌<◌, bit_xor, List, [], ◌∷◌, ◌++◌, length, refl, sym, ap, ◌∙◌, arith, length-append}
+use Rattle.std.specs.Int.Bits.{xor_assoc, xor_zero_r}
 use Rattle.gcm_field.specs.Field.{field_mul, polynomial}
 use Rattle.gcm_field.proofs.Algebra.{field_mul-xor, field_mul_lt, field_mul_assoc, one_mul}
 use Rattle.gcm_seal.specs.Gcm.{power, ghash}
@@ -31,7 +31,7 @@ ghash_more h (y ∷ xs) x small =
     let n : length (xs ++ x ∷ []) ≡ suc (length xs) = length-append xs (x ∷ []) ∙ (let e : length xs + 1 ≡ suc (length xs) = omega arith in e) in
     let top = field_mul (polynomial y) (power h (suc (length xs))) in
     let first : field_mul (polynomial y) (power h (suc (length (xs ++ x ∷ [])))) ≡ field_mul top h =
-      ap (λ m. field_mul (polynomial y) (power h (suc m))) n ∙ power_step (polynomial y) h (suc (length xs)) small in
+    ap (λ m. field_mul (polynomial y) (power h (suc m))) n ∙ power_step (polynomial y) h (suc (length xs)) small in
     (λ i. bit_xor (first i) (ghash_more h xs x small i))
     ∙ sym (field_mul-xor top (bit_xor (ghash h xs) (polynomial x)) h)
     ∙ ap (λ s. field_mul s h) (sym (xor_assoc top (ghash h xs) (polynomial x)))

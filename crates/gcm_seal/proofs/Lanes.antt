@@ -1,5 +1,5 @@
 -- Four blocks in a vector of 64 bytes, and the key stream that they make.
-use Rattle.std.proofs.Common.{◌≡◌, ℕ, zero, suc, ◌+◌, ◌-◌, ◌*◌, ◌/◌, ◌%◌, ◌<◌, ◌≤◌, bit_xor, List, [], ◌∷◌, ◌++◌, map, length, take, drop, get_or, refl, sym, ap, ◌∙◌, arith, add-zero, length-append, inl, inr}
+use Rattle.std.proofs.Common.{◌≡◌, ℕ, zero, suc, ◌+◌, ◌-◌, ◌*◌, ◌/◌, ◌%◌, ◌^◌, ◌<◌, ◌≤◌, bit_xor, List, [], ◌∷◌, ◌++◌, map, length, drop, get_or, refl, sym, ap, ◌∙◌, arith, add-zero, inl, inr}
 use Rattle.std.specs.Int.{w32, to_be_bytes}
 use Rattle.std.specs.List.{range_with_len}
 use Rattle.std.proofs.Math.ListN.{get_or-append}
@@ -69,8 +69,8 @@ pub added : (key nonce : List ℕ) (from i count : ℕ) (old before after stream
     → ((j : ℕ) → j < count → get_or after (64 * i + j) 0 ≡ bit_xor (get_or before (64 * i + j) 0) (get_or stream j 0))
     → (k : ℕ) → k < 64 * i + count → get_or after k 0 ≡ bit_xor (get_or old k 0) (keystream_byte key nonce from k)
 added key nonce from i count old before after stream few done rest ks kept put k h = elim (cases_lt k (64 * i)) [
-      inl low ↦ kept k low ∙ done k low
-    | inr high ↦
+  | inl low ↦ kept k low ∙ done k low
+  | inr high ↦
       let j = k - 64 * i in
       let e : 64 * i + j ≡ k = omega arith in
       let within : j < count = omega arith in
@@ -79,4 +79,13 @@ added key nonce from i count old before after stream few done rest ks kept put k
       ap (λ n. get_or after n 0) (sym e) ∙ put j within
       ∙ (λ n. bit_xor (rest (64 * i + j) above n) ((ks j small ∙ keystream_later key nonce from i j) n))
       ∙ ap (λ n. bit_xor (get_or old n 0) (keystream_byte key nonce from n)) e
-    ]
+]
+
+-- a counter has four bytes
+pub wrapped : (n : ℕ) → to_be_bytes w32 (n % 2 ^ 32) ≡ to_be_bytes w32 n
+wrapped n =
+    let b3 : n % 2 ^ 32 / 2 ^ 24 % 256 ≡ n / 2 ^ 24 % 256 = omega arith in
+    let b2 : n % 2 ^ 32 / 2 ^ 16 % 256 ≡ n / 2 ^ 16 % 256 = omega arith in
+    let b1 : n % 2 ^ 32 / 2 ^ 8 % 256 ≡ n / 2 ^ 8 % 256 = omega arith in
+    let b0 : n % 2 ^ 32 % 256 ≡ n % 256 = omega arith in
+    λ i. b3 i ∷ b2 i ∷ b1 i ∷ b0 i ∷ []

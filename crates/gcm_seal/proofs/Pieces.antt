@@ -1,19 +1,18 @@
 -- Hashing a text piece by piece.
-use Rattle.std.proofs.Common.{◌≡◌, ℕ, zero, suc, ◌+◌, ◌-◌, ◌*◌, ◌/◌, ◌%◌, ◌^◌, ◌<◌, ◌≤◌, bit_xor, List, [], ◌∷◌, ◌++◌, map, length, take, drop, get_or, replicate, refl, sym, ap, ◌∙◌, arith, append_assoc, length-append, inl, inr}
-use Rattle.std.specs.Int.{w128, w64, from_be_bytes, to_be_bytes}
+use Rattle.std.proofs.Common.{◌≡◌, ℕ, ◌+◌, ◌-◌, ◌*◌, ◌^◌, ◌<◌, ◌≤◌, bit_xor, List, [], ◌∷◌, ◌++◌, map, length, take, drop, get_or, replicate, refl, sym, ap, ◌∙◌, arith, append_assoc, length-append, inl, inr}
+use Rattle.std.specs.Int.{w128, from_be_bytes, to_be_bytes}
 use Rattle.std.specs.List.{range_with_len}
 use Rattle.std.proofs.Math.ListN.{get_or-append}
 use Rattle.std.proofs.Math.Seq.{take-add}
 use Rattle.std.proofs.lemmas.Bool.{cases_lt}
-use Rattle.std.proofs.lemmas.List.{get_or-replicate, get_or-take, get_or-append-add, get_or_past, length-take-le, length-take, length-drop, take-append-drop, append-nil}
+use Rattle.std.proofs.lemmas.List.{get_or-replicate, get_or-take, get_or-append-add, get_or_past, length-take-le, length-drop, take-append-drop}
 use Rattle.std.proofs.lemmas.List.FromFn.{fill_by_all}
 use Rattle.gcm_field.specs.Field.{field_mul, polynomial, reversed}
 use Rattle.gcm_field.proofs.Reversal.{reversed-xor, reversed-reversed}
-use Rattle.aes_block.specs.Aes.{aes}
-use Rattle.gcm_seal.specs.Gcm.{blocks_of, ghash, gctr, keystream_byte, counter_block, lengths_block, hashed_blocks, hash_key, tag_of}
+use Rattle.gcm_seal.specs.Gcm.{blocks_of, ghash, gctr, lengths_block, hashed_blocks, hash_key, tag_of}
 use Rattle.gcm_seal.specs.Hashing.{Hashed, IsHashOf}
 use Rattle.gcm_seal.proofs.Horner.{ghash_more}
-use Rattle.gcm_seal.proofs.Texts.{blocks-append, blocks-one, blocks-none}
+use Rattle.gcm_seal.proofs.Texts.{blocks-append, blocks-one}
 
 -- two lists with the same items
 pub same_items : (xs ys : List ℕ) (n : ℕ) → length xs ≡ n → length ys ≡ n → ((k : ℕ) → k < n → get_or xs k 0 ≡ get_or ys k 0) → xs ≡ ys
@@ -57,23 +56,23 @@ put_after old new bytes at eo en fits before inside =
     let front : length (take at old) ≡ at = length-take-le at old (omega arith) in
     same_items (take n new) (take at old ++ bytes) n (length-take-le n new (omega arith)) (length-append (take at old) bytes ∙ (let e : length (take at old) + length bytes ≡ n = omega arith in e))
     (λ k h. get_or-take n new k 0 h ∙ elim (cases_lt k at) [
-        inl low ↦
-        before k low ∙ sym (get_or-append (take at old) bytes 0 k (omega arith) ∙ get_or-take at old k 0 low)
+      | inl low ↦
+          before k low ∙ sym (get_or-append (take at old) bytes 0 k (omega arith) ∙ get_or-take at old k 0 low)
       | inr high ↦
-        let j = k - at in
-        let e : at + j ≡ k = omega arith in
-        let f : length (take at old) + j ≡ k = omega arith in
-        ap (λ m. get_or new m 0) (sym e) ∙ inside j (omega arith)
-        ∙ sym (ap (λ m. get_or (take at old ++ bytes) m 0) (sym f) ∙ get_or-append-add (take at old) bytes j 0)
-      ])
+          let j = k - at in
+          let e : at + j ≡ k = omega arith in
+          let f : length (take at old) + j ≡ k = omega arith in
+          ap (λ m. get_or new m 0) (sym e) ∙ inside j (omega arith)
+          ∙ sym (ap (λ m. get_or (take at old ++ bytes) m 0) (sym f) ∙ get_or-append-add (take at old) bytes j 0)
+    ])
 
 -- bytes put into zeros
 pub padded : (new bytes : List ℕ) → length bytes ≤ 16 → ((j : ℕ) → j < length bytes → get_or new (0 + j) 0 ≡ get_or bytes j 0)
     → ((k : ℕ) → 0 + length bytes ≤ k → get_or new k 0 ≡ get_or (replicate 16 0) k 0) → (j : ℕ) → j < 16 → get_or new j 0 ≡ get_or bytes j 0
 padded new bytes few inside after j h = elim (cases_lt j (length bytes)) [
-      inl low ↦ let e : j ≡ 0 + j = omega arith in ap (λ k. get_or new k 0) e ∙ inside j low
-    | inr high ↦ after j (omega arith) ∙ get_or-replicate 16 j 0 0 h ∙ sym (get_or_past bytes j 0 high)
-    ]
+  | inl low ↦ let e : j ≡ 0 + j = omega arith in ap (λ k. get_or new k 0) e ∙ inside j low
+  | inr high ↦ after j (omega arith) ∙ get_or-replicate 16 j 0 0 h ∙ sym (get_or_past bytes j 0 high)
+]
 
 -- what a block or a text adds to the hash
 abbrev pub Absorbs : ℕ → ℕ → ℕ → List ℕ → Type 0
@@ -105,18 +104,18 @@ long_piece v block head whole tail rest bytes key nonce aad text m middle sum e 
     let front = r.front ++ (block ++ whole) in
     let both : length (block ++ whole) ≡ 16 * (m + 1) = length-append block whole ∙ (let f : length block + length whole ≡ 16 * (m + 1) = omega arith in f) in
     let split : blocks_of front ≡ blocks_of r.front ++ (blocks_of block ++ blocks_of whole) =
-      blocks-append r.front (block ++ whole) r.count r.whole ∙ ap (λ b. blocks_of r.front ++ b) (blocks-append block whole 1 long) in
+    blocks-append r.front (block ++ whole) r.count r.whole ∙ ap (λ b. blocks_of r.front ++ b) (blocks-append block whole 1 long) in
     let after : reversed sum ≡ ghash h (((blocks_of aad ++ blocks_of r.front) ++ blocks_of block) ++ blocks_of whole) =
-      second ((blocks_of aad ++ blocks_of r.front) ++ blocks_of block) (first (blocks_of aad ++ blocks_of r.front) r.summed) in
+    second ((blocks_of aad ++ blocks_of r.front) ++ blocks_of block) (first (blocks_of aad ++ blocks_of r.front) r.summed) in
     let order : ((blocks_of aad ++ blocks_of r.front) ++ blocks_of block) ++ blocks_of whole ≡ blocks_of aad ++ blocks_of front =
-      append_assoc (blocks_of aad ++ blocks_of r.front) (blocks_of block) (blocks_of whole)
-      ∙ append_assoc (blocks_of aad) (blocks_of r.front) (blocks_of block ++ blocks_of whole)
-      ∙ ap (λ b. blocks_of aad ++ b) (sym split) in
+    append_assoc (blocks_of aad ++ blocks_of r.front) (blocks_of block) (blocks_of whole)
+    ∙ append_assoc (blocks_of aad) (blocks_of r.front) (blocks_of block ++ blocks_of whole)
+    ∙ ap (λ b. blocks_of aad ++ b) (sym split) in
     let joined : text ++ bytes ≡ front ++ rest =
-      (λ i. r.cut i ++ cut i)
-      ∙ append_assoc r.front v.rest (head ++ (whole ++ tail))
-      ∙ ap (λ t. r.front ++ t) (sym (append_assoc v.rest head (whole ++ tail)) ∙ ap (λ t. t ++ (whole ++ tail)) (sym e) ∙ sym (append_assoc block whole tail))
-      ∙ sym (append_assoc r.front (block ++ whole) tail) ∙ ap (λ t. front ++ t) (sym er) in
+    (λ i. r.cut i ++ cut i)
+    ∙ append_assoc r.front v.rest (head ++ (whole ++ tail))
+    ∙ ap (λ t. r.front ++ t) (sym (append_assoc v.rest head (whole ++ tail)) ∙ ap (λ t. t ++ (whole ++ tail)) (sym e) ∙ sym (append_assoc block whole tail))
+    ∙ sym (append_assoc r.front (block ++ whole) tail) ∙ ap (λ t. front ++ t) (sym er) in
     record {
       subkey = r.subkey;
       masked = r.masked;
@@ -138,16 +137,16 @@ unfolding tag_of gctr
 tagged v lengths key nonce aad text tag middle sum small first second el et r =
     let h = polynomial v.key in
     let last : blocks_of lengths ≡ lengths_block (length aad) (length text) ∷ [] =
-      ap blocks_of el ∙ blocks-one (lengths_block v.aad_length v.length) (lengths_block v.aad_length v.length) (omega arith) (omega arith) refl (λ j k. refl)
-      ∙ (λ i. lengths_block (r.aad_length i) (r.text_length i) ∷ []) in
+    ap blocks_of el ∙ blocks-one (lengths_block v.aad_length v.length) (lengths_block v.aad_length v.length) (omega arith) (omega arith) refl (λ j k. refl)
+    ∙ (λ i. lengths_block (r.aad_length i) (r.text_length i) ∷ []) in
     let whole_text : blocks_of r.front ++ blocks_of v.rest ≡ blocks_of text =
-      sym (blocks-append r.front v.rest r.count r.whole) ∙ ap blocks_of (sym r.cut) in
+    sym (blocks-append r.front v.rest r.count r.whole) ∙ ap blocks_of (sym r.cut) in
     let order : ((blocks_of aad ++ blocks_of r.front) ++ blocks_of v.rest) ++ blocks_of lengths ≡ hashed_blocks aad text =
-      append_assoc (blocks_of aad ++ blocks_of r.front) (blocks_of v.rest) (blocks_of lengths)
-      ∙ append_assoc (blocks_of aad) (blocks_of r.front) (blocks_of v.rest ++ blocks_of lengths)
-      ∙ ap (λ b. blocks_of aad ++ b) (sym (append_assoc (blocks_of r.front) (blocks_of v.rest) (blocks_of lengths)) ∙ (λ i. whole_text i ++ last i)) in
+    append_assoc (blocks_of aad ++ blocks_of r.front) (blocks_of v.rest) (blocks_of lengths)
+    ∙ append_assoc (blocks_of aad) (blocks_of r.front) (blocks_of v.rest ++ blocks_of lengths)
+    ∙ ap (λ b. blocks_of aad ++ b) (sym (append_assoc (blocks_of r.front) (blocks_of v.rest) (blocks_of lengths)) ∙ (λ i. whole_text i ++ last i)) in
     let hashed : reversed sum ≡ ghash (polynomial (hash_key key)) (hashed_blocks aad text) =
-      second ((blocks_of aad ++ blocks_of r.front) ++ blocks_of v.rest) (first (blocks_of aad ++ blocks_of r.front) r.summed)
-      ∙ (λ i. ghash (polynomial (r.subkey i)) (order i)) in
+    second ((blocks_of aad ++ blocks_of r.front) ++ blocks_of v.rest) (first (blocks_of aad ++ blocks_of r.front) r.summed)
+    ∙ (λ i. ghash (polynomial (r.subkey i)) (order i)) in
     let number : sum ≡ reversed (ghash (polynomial (hash_key key)) (hashed_blocks aad text)) = sym (reversed-reversed sum small) ∙ ap reversed hashed in
     et ∙ (λ j. map (λ i. bit_xor (get_or (to_be_bytes w128 (number j)) i 0) (get_or (r.masked j) i 0)) (range_with_len 0 16))

@@ -1,5 +1,5 @@
 -- Texts in blocks.
-use Rattle.std.proofs.Common.{◌≡◌, ℕ, zero, suc, ◌+◌, ◌-◌, ◌*◌, ◌/◌, ◌%◌, ◌^◌, ◌<◌, ◌≤◌, bit_xor, List, [], ◌∷◌, ◌++◌, map, length, take, drop, get_or, refl, sym, ap, ◌∙◌, arith, length-append, append_assoc, add-one, add-zero}
+use Rattle.std.proofs.Common.{◌≡◌, ℕ, zero, suc, ◌+◌, ◌*◌, ◌/◌, ◌%◌, ◌<◌, ◌≤◌, bit_xor, List, [], ◌∷◌, ◌++◌, map, length, get_or, refl, sym, ap, ◌∙◌, arith, length-append, append_assoc, add-one, add-zero}
 use Rattle.std.specs.List.{range_with_len}
 use Rattle.std.proofs.Math.ListN.{get_or-append}
 use Rattle.std.proofs.lemmas.List.{get_or-append-add, append-nil}
@@ -44,7 +44,7 @@ back_block : (front back : List ℕ) (n i : ℕ) → length front ≡ 16 * n →
 back_block front back n i e =
     range_same (λ j. get_or (front ++ back) (16 * (n + i) + j) 0) (λ j. get_or back (16 * i + j) 0) 16 0
     (λ j low. let place : 16 * (n + i) + j ≡ length front + (16 * i + j) = omega arith in
-      ap (λ k. get_or (front ++ back) k 0) place ∙ get_or-append-add front back (16 * i + j) 0)
+    ap (λ k. get_or (front ++ back) k 0) place ∙ get_or-append-add front back (16 * i + j) 0)
 
 -- a text is cut between two blocks
 pub blocks-append : (front back : List ℕ) (n : ℕ) → length front ≡ 16 * n → blocks_of (front ++ back) ≡ blocks_of front ++ blocks_of back
@@ -57,7 +57,7 @@ blocks-append front back n e =
     let f = block_at (front ++ back) in
     ap (λ k. map f (range_with_len 0 k)) count ∙ range_cut f n m
     ∙ (λ i. range_same f (block_at front) n [] (λ k h. front_block front back n k e h) i
-        ++ range_same (λ k. f (n + k)) (block_at back) m [] (λ k h. back_block front back n k e) i)
+    ++ range_same (λ k. f (n + k)) (block_at back) m [] (λ k h. back_block front back n k e) i)
     ∙ ap (λ k. map (block_at front) (range_with_len 0 k) ++ map (block_at back) (range_with_len 0 m)) first
 
 pub blocks-none : blocks_of [] ≡ []
@@ -72,7 +72,7 @@ blocks-one text block some few whole same =
     let one : (length text + 15) / 16 ≡ 1 = omega arith in
     ap (λ k. map (block_at text) (range_with_len 0 k)) one
     ∙ ap (λ b. b ∷ []) (sym (fill_by_all (λ j. get_or text (16 * 0 + j) 0) block 16 0 whole
-        (λ j h. same j h ∙ ap (λ k. get_or text k 0) (let e : j ≡ 16 * 0 + j = omega arith in e))))
+    (λ j h. same j h ∙ ap (λ k. get_or text k 0) (let e : j ≡ 16 * 0 + j = omega arith in e))))
 
 -- counter mode, byte by byte
 pub gctr_is : (key nonce : List ℕ) (c : ℕ) (text done : List ℕ) → length done ≡ length text
@@ -91,8 +91,8 @@ gctr_twice key nonce c text =
     let once = gctr key nonce c text in
     let same : length once ≡ length text = length-gctr key nonce c text in
     sym (gctr_is key nonce c once text (sym same) (λ k h.
-      let within : k < length text = omega arith in
-      sym (ap (λ b. bit_xor b (keystream_byte key nonce c k)) (get_or-gctr key nonce c text k within) ∙ xor_twice (get_or text k 0) (keystream_byte key nonce c k))))
+    let within : k < length text = omega arith in
+    sym (ap (λ b. bit_xor b (keystream_byte key nonce c k)) (get_or-gctr key nonce c text k within) ∙ xor_twice (get_or text k 0) (keystream_byte key nonce c k))))
 
 keystream_moved : (key nonce : List ℕ) (c n at k : ℕ) → at ≡ 16 * n → keystream_byte key nonce c (at + k) ≡ keystream_byte key nonce (c + n) k
 keystream_moved key nonce c n at k e =
@@ -109,7 +109,7 @@ gctr-append key nonce c n front back e =
     ap (λ k. map f (range_with_len 0 k)) (length-append front back)
     ∙ range_cut f (length front) (length back)
     ∙ (λ i.
-      range_same f (λ k. bit_xor (get_or front k 0) (keystream_byte key nonce c k)) (length front) 0
-      (λ k h. ap (λ b. bit_xor b (keystream_byte key nonce c k)) (get_or-append front back 0 k h)) i
-      ++ range_same (λ k. f (length front + k)) (λ k. bit_xor (get_or back k 0) (keystream_byte key nonce (c + n) k)) (length back) 0
-      (λ k h. λ j. bit_xor (get_or-append-add front back k 0 j) (keystream_moved key nonce c n (length front) k e j)) i)
+    range_same f (λ k. bit_xor (get_or front k 0) (keystream_byte key nonce c k)) (length front) 0
+    (λ k h. ap (λ b. bit_xor b (keystream_byte key nonce c k)) (get_or-append front back 0 k h)) i
+    ++ range_same (λ k. f (length front + k)) (λ k. bit_xor (get_or back k 0) (keystream_byte key nonce (c + n) k)) (length back) 0
+    (λ k h. λ j. bit_xor (get_or-append-add front back k 0 j) (keystream_moved key nonce c n (length front) k e j)) i)

@@ -49,6 +49,6 @@ hashed_blocks aad text = blocks_of aad ++ (blocks_of text ++ lengths_block (leng
 unfoldable pub tag_of : List ℕ → List ℕ → List ℕ → List ℕ → List ℕ
 tag_of key nonce aad text = gctr key nonce 1 (block_of (ghash (polynomial (hash_key key)) (hashed_blocks aad text)))
 
--- authenticated encryption (7.1): the ciphertext, and its tag
-abbrev pub seal : List ℕ → List ℕ → List ℕ → List ℕ → List ℕ
-seal key nonce aad text = gctr key nonce 2 text ++ tag_of key nonce aad (gctr key nonce 2 text)
+-- authenticated encryption (7.1): the ciphertext and its tag
+abbrev pub seal : List ℕ → List ℕ → List ℕ → List ℕ → List ℕ × List ℕ
+seal key nonce aad text = (gctr key nonce 2 text, tag_of key nonce aad (gctr key nonce 2 text))

@@ -1,7 +1,7 @@
 -- A hash of a ciphertext that comes in pieces.
-use Rattle.std.specs.Prelude.{◌≡◌, ℕ, ◌+◌, ◌*◌, ◌<◌, List, ◌++◌, length, take}
+use Rattle.std.specs.Prelude.{◌≡◌, ℕ, ◌*◌, List, ◌++◌, length}
 use Rattle.gcm_field.specs.Field.{polynomial, reversed}
-use Rattle.gcm_seal.specs.Gcm.{keystream_byte, counter_block, hash_key, blocks_of, ghash}
+use Rattle.gcm_seal.specs.Gcm.{counter_block, hash_key, blocks_of, ghash}
 use Rattle.aes_block.specs.Aes.{aes}
 
 -- what is kept of the pieces so far

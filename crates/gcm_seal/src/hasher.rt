@@ -133,7 +133,9 @@ fn spelled_lengths(aad_length: usize, length: usize) -> [u8; 16]
 {
     let [a0, a1, a2, a3, a4, a5, a6, a7] = (8 * aad_length as u64).to_be_bytes();
     let [b0, b1, b2, b3, b4, b5, b6, b7] = (8 * length as u64).to_be_bytes();
-    [a0, a1, a2, a3, a4, a5, a6, a7, b0, b1, b2, b3, b4, b5, b6, b7]
+    [
+        a0, a1, a2, a3, a4, a5, a6, a7, b0, b1, b2, b3, b4, b5, b6, b7,
+    ]
 }
 
 // The hash as a block, added to the mask.

@@ -11,20 +11,18 @@ mod hasher;
 mod sealed;
 
 pub use hasher::Hasher;
-pub use sealed::{BadTag, open_in_place, tag};
+pub use sealed::{BadTag, ctr_in_place, open_in_place, seal_in_place, sign, tag};
 
 /// The law that test cases 1 and 2 of GCM follow from the definitions.
 pub fn standard_vectors()
     ensures tag_1 { tag_of zero_key zero_nonce [] [] ≡ tag_1 }
     ensures ciphertext_2 { gctr zero_key zero_nonce 2 (replicate 16 0) ≡ ciphertext_2 }
     ensures tag_2 { tag_of zero_key zero_nonce [] ciphertext_2 ≡ tag_2 }
-{
-}
+{}
 
 /// The laws that a text opens to what was sealed, and that tags have 16 bytes.
 pub fn laws()
     ensures undone { (key nonce text : List ℕ) → (c : ℕ) → gctr key nonce c (gctr key nonce c text) ≡ text }
     ensures same_length { (key nonce text : List ℕ) → (c : ℕ) → length (gctr key nonce c text) ≡ length text }
     ensures tag_length { (key nonce aad text : List ℕ) → length (tag_of key nonce aad text) ≡ 16 }
-{
-}
+{}

@@ -1,8 +1,8 @@
 // Texts with their tags (SP 800-38D, 7.1 and 7.2).
 ghost use Rattle.std.specs.Prelude.{◌≡◌, ◌↔◌, ◌≤◌, length, IsOk, OnOk, OnErr, IfErr};
-ghost use Rattle.gcm_seal.specs.Gcm.{gctr, tag_of};
+ghost use Rattle.gcm_seal.specs.Gcm.{gctr, tag_of, seal};
 
-use crate::counter_mode::apply;
+use crate::counter_mode::{ciphered, gctr_in_place};
 use crate::hasher::Hasher;
 use aes_block::AesKey;
 
@@ -28,7 +28,13 @@ pub fn tag(key: &AesKey, nonce: &[u8; 12], aad: &[u8], ciphertext: &[u8]) -> [u8
 
 /// Opens the ciphertext in the buffer, in place, if `stored` is its tag. Otherwise the buffer stays as it was, and
 /// the error has both tags. The buffer has at most 268,435,456 bytes, the associated data 4,096.
-pub fn open_in_place(key: &AesKey, nonce: &[u8; 12], aad: &[u8], buffer: &mut [u8], stored: &[u8; 16]) -> Result<(), BadTag>
+pub fn open_in_place(
+    key: &AesKey,
+    nonce: &[u8; 12],
+    aad: &[u8],
+    buffer: &mut [u8],
+    stored: &[u8; 16],
+) -> Result<(), BadTag>
     requires short_aad { length aad.now ≤ 4096 }
     requires short_text { length buffer.old ≤ 268435456 }
     ensures accepted { IsOk result ↔ (tag_of key.now nonce.now aad.now buffer.old ≡ stored.now) }
@@ -44,6 +50,41 @@ pub fn open_in_place(key: &AesKey, nonce: &[u8; 12], aad: &[u8], buffer: &mut [u
             stored: *stored,
         });
     }
-    apply(key, nonce, 2, buffer);
+    gctr_in_place(key, nonce, 2, buffer);
     Ok(())
+}
+
+/// Seals the plaintext in the buffer, in place, and answers the tag. The buffer has at most 268,435,456 bytes, the
+/// associated data 4,096.
+pub fn seal_in_place(key: &AesKey, nonce: &[u8; 12], aad: &[u8], buffer: &mut [u8]) -> [u8; 16]
+    requires short_aad { length aad.now ≤ 4096 }
+    requires short_text { length buffer.old ≤ 268435456 }
+    ensures { (buffer.new, result) ≡ seal key.now nonce.now aad.now buffer.old }
+{
+    gctr_in_place(key, nonce, 2, buffer);
+    tag(key, nonce, aad, buffer)
+}
+
+/// The tag that sealing a plaintext would give: of at most 268,435,456 bytes, and associated data of 4,096.
+pub fn sign(key: &AesKey, nonce: &[u8; 12], aad: &[u8], plain: &[u8]) -> [u8; 16]
+    requires short_aad { length aad.now ≤ 4096 }
+    requires short_text { length plain.now ≤ 268435456 }
+    ensures { result ≡ tag_of key.now nonce.now aad.now (gctr key.now nonce.now 2 plain.now) }
+{
+    let mut hasher = Hasher::new(key, nonce, aad);
+    for i in 0..(plain.len() + 63) / 64 {
+        let piece = &plain[64 * i..plain.len().min(64 * i + 64)];
+        let ciphertext = ciphered(key, nonce, 2 + 4 * i as u32, piece);
+        hasher.update(&ciphertext[..piece.len()]);
+    }
+    hasher.finish()
+}
+
+/// Counter mode over the buffer, of at most 268,435,456 bytes, without a tag: from counter 1, and with no block spent
+/// on one. It is its own inverse.
+pub fn ctr_in_place(key: &AesKey, nonce: &[u8; 12], buffer: &mut [u8])
+    requires { length buffer.old ≤ 268435456 }
+    ensures { buffer.new ≡ gctr key.now nonce.now 1 buffer.old }
+{
+    gctr_in_place(key, nonce, 1, buffer);
 }

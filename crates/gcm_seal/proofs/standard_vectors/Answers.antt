@@ -1,10 +1,10 @@
-use Rattle.std.proofs.Common.{◌≡◌, ℕ, List, [], ◌∷◌, replicate, refl, sym, ap, ◌∙◌}
+use Rattle.std.proofs.Common.{◌≡◌, [], ◌∷◌, replicate, refl}
 use Rattle.pme_terms.specs.Polynomials.{product_below, number_below}
 use Rattle.aes_block.specs.Field.{folded, field_mul, inverse_below, inverse, affine_bit, sbox}
 use Rattle.aes_block.specs.Aes.{state_after, cipher, power_of_x, schedule_after, schedule, aes}
 use Rattle.gcm_field.specs.Field as ghash
 use Rattle.gcm_seal.specs.Gcm.{gctr, blocks_of, power, ghash, tag_of, counter_block}
-use Rattle.gcm_seal.specs.Vectors.{zero_key, zero_nonce, tag_1, ciphertext_2, tag_2}
+use Rattle.gcm_seal.specs.Vectors.{zero_key, zero_nonce, tag_1, ciphertext_2}
 use Rattle.gcm_seal.proofs.standard_vectors.Goals as goal
 
 subkey : aes zero_key (replicate 16 0) ≡ 0x66 ∷ 0xe9 ∷ 0x4b ∷ 0xd4 ∷ 0xef ∷ 0x8a ∷ 0x2c ∷ 0x3b ∷ 0x88 ∷ 0x4c ∷ 0xfa ∷ 0x59 ∷ 0xca ∷ 0x34 ∷ 0x2b ∷ 0x2e ∷ []

@@ -1,4 +1,4 @@
-use Rattle.std.proofs.Common.{◌≡◌, ℕ, ◌*◌, ◌<◌, ◌^◌, List, ◌++◌, take}
+use Rattle.std.proofs.Common.{◌≡◌, ℕ, ◌*◌, List, ◌++◌, take}
 use Rattle.gcm_field.specs.Field.{polynomial, reversed}
 use Rattle.gcm_seal.specs.Gcm.{blocks_of, ghash}
 use Rattle.gcm_seal.proofs.hasher.absorb.Given as goal

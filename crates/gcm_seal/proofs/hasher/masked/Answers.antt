@@ -1,4 +1,4 @@
-use Rattle.std.proofs.Common.{◌≡◌, ◌+◌, ◌<◌, ◌≤◌, ◌≢◌, length, get_or, set, bit_xor, ap, ◌∙◌, sym, arith, below_more, get_or-set_other, get_or-set_same}
+use Rattle.std.proofs.Common.{◌<◌, ◌≢◌, length, get_or, bit_xor, ap, ◌∙◌, arith, below_more, get_or-set_other, get_or-set_same}
 use Rattle.std.proofs.Math.ListN.{length-set}
 use Rattle.std.specs.Int.{w128, to_be_bytes}
 use Rattle.std.proofs.lemmas.List.FromFn.{fill_by_all}
@@ -9,8 +9,8 @@ loop-i-preserved c =
     record {
       whole = length-set c.loop-i.tag c.loop-i.i _ ∙ c.loop-i.invariant.whole;
       done = below_more _ _
-        (λ k h. let ne : k ≢ c.loop-i.i = omega arith in rw get_or-set_other (c.loop-i.invariant.done k h))
-        (let lt : c.loop-i.i < length c.loop-i.tag = omega arith in rw get_or-set_same (ap (λ b. bit_xor b (get_or c.args.mask.now c.loop-i.i 0)) (c.loop-i.invariant.rest c.loop-i.i (omega arith))));
+          (λ k h. let ne : k ≢ c.loop-i.i = omega arith in rw get_or-set_other (c.loop-i.invariant.done k h))
+          (let lt : c.loop-i.i < length c.loop-i.tag = omega arith in rw get_or-set_same (ap (λ b. bit_xor b (get_or c.args.mask.now c.loop-i.i 0)) (c.loop-i.invariant.rest c.loop-i.i (omega arith))));
       rest = λ k h. let ne : k ≢ c.loop-i.i = omega arith in rw get_or-set_other (c.loop-i.invariant.rest k (omega arith));
     }
 

@@ -1,4 +1,4 @@
-use Rattle.std.proofs.Common.{◌≡◌, ◌∙◌, sym, ap, subst, arith}
+use Rattle.std.proofs.Common.{sym, subst}
 use Rattle.gcm_seal.specs.Hashing.{IsHashOf}
 use Rattle.gcm_seal.proofs.Pieces.{tagged}
 use Rattle.gcm_seal.proofs.hasher.Hasher.finish.Goals as goal

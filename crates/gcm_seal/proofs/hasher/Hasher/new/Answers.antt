@@ -1,6 +1,6 @@
-use Rattle.std.proofs.Common.{◌≡◌, [], ◌++◌, ap, ◌∙◌, sym, refl, arith}
+use Rattle.std.proofs.Common.{[], ◌++◌, ap, ◌∙◌, sym, refl}
 use Rattle.std.proofs.lemmas.List.{append-nil}
-use Rattle.gcm_field.specs.Field.{polynomial, reversed}
+use Rattle.gcm_field.specs.Field.{polynomial}
 use Rattle.gcm_field.proofs.TableLemmas.{reversed-none}
 use Rattle.gcm_seal.specs.Gcm.{blocks_of, ghash}
 use Rattle.gcm_seal.proofs.Horner.{ghash-none}
