@@ -1,0 +1,8 @@
+-- What a key keeps: its bytes, and after them the rest of the key schedule.
+use Rattle.std.specs.Prelude.{◌≡◌, ◌+◌, ◌*◌, take}
+use Rattle.aes_block.specs.Aes.{IsKeyLength, schedule}
+use Rattle.aes_block.specs.declared.key.AesKey.TheInside.{Inside}
+
+pub record IsExpanded (k : Inside) : Type 0 where
+  pub long : IsKeyLength k.key_length
+  pub expanded : take (4 * k.key_length + 112) k.round_keys ≡ schedule (take k.key_length k.round_keys)

@@ -1,0 +1,7 @@
+pub use Rattle.pme_terms.specs.Polynomials
+pub mod Field
+pub mod Aes
+pub mod Vectors
+pub mod FourBlocks
+pub mod HalfBytes
+pub mod KeyInside

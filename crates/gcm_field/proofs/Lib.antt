@@ -1,0 +1,5 @@
+pub mod Vectors
+pub mod Folds
+pub mod Algebra
+pub mod Reversal
+pub mod TableLemmas

@@ -1,0 +1,16 @@
+-- The products of a hash key that a table keeps, as numbers in the order of a block: first bit highest.
+use Rattle.std.specs.Prelude.{ℕ, ◌-◌, ◌*◌, ◌^◌, List, map}
+use Rattle.std.specs.List.{range_with_len}
+use Rattle.gcm_field.specs.Field.{field_mul, reversed}
+
+-- the product of x with h
+unfoldable pub multiple : ℕ → ℕ → ℕ
+multiple h x = reversed (field_mul (reversed x) h)
+
+-- the products for each value of half byte k, from the first
+unfoldable pub table_row : ℕ → ℕ → List ℕ
+table_row h k = map (λ v. multiple h (v * 2 ^ (124 - 4 * k))) (range_with_len 0 16)
+
+-- those for each half byte of a block
+unfoldable pub table_of : ℕ → List (List ℕ)
+table_of h = map (table_row h) (range_with_len 0 32)

@@ -1,0 +1,165 @@
+ghost use Rattle.std.specs.Prelude.{◌≡◌, ℕ, ◌+◌, ◌*◌, ◌^◌, ◌<◌, List, [], ◌∷◌, map, replicate, bit_xor};
+ghost use Rattle.std.specs.Int.{w128, to_be_bytes};
+ghost use Rattle.gcm_field.specs.Field.{folded, field_mul, reversed, polynomial, prod};
+ghost use Rattle.gcm_field.specs.Table.{multiple, table_of, table_row};
+
+use std::marker::Model;
+
+// The modulus without x^128, as the first bits of a block.
+const REDUCTION: u128 = 0xe1 << 120;
+
+/// A hash key: the block `H` of SP 800-38D, with the products that make others fast.
+#[derive(Drop)]
+pub struct HashKey {
+    block: [u8; 16],
+    rows: [[u8; 16]; 16],
+    table: [[u128; 16]; 32],
+}
+
+impl Model for HashKey {
+    ghost use Rattle.std.specs.Prelude.{ℕ, List};
+
+    ghost Value = { List ℕ };
+
+    ghost use Rattle.gcm_field.specs.KeyInside.{IsTabled};
+
+    ghost view = { λ k. k.block };
+
+    ghost invariant = { IsTabled };
+}
+
+impl HashKey {
+    /// The hash key of a block.
+    pub fn new(block: [u8; 16]) -> HashKey
+        ensures { result ≡ block }
+    {
+        let mut table = [[0; 16]; 32];
+        fill_table(&mut table, u128::from_be_bytes(block));
+        let rows = blocks_of(&table[0]);
+        HashKey { block, rows, table }
+    }
+
+    /// The product of the block `x` with the key.
+    pub fn mul(&self, x: [u8; 16]) -> [u8; 16]
+        ensures { result ≡ prod x self.now }
+    {
+        self.mul_number(u128::from_be_bytes(x)).to_be_bytes()
+    }
+
+    /// The product of the key with a block whose first byte is `16 * digit` and whose other bytes are 0.
+    pub fn row(&self, digit: usize) -> &[u8; 16]
+        requires { digit < 16 }
+        ensures { result.now ≡ prod ((16 * digit) ∷ replicate 15 0) self.now }
+    {
+        &self.rows[digit]
+    }
+
+    /// The product of a block with the key, where both blocks are numbers: the first byte is the highest.
+    #[inline(always)]
+    pub fn mul_number(&self, x: u128) -> u128
+        ensures { reversed result ≡ field_mul (reversed x) (polynomial self.now) }
+    {
+        let bytes = x.to_be_bytes();
+        let mut product = 0;
+        for k in 0..16 {
+            let byte = bytes[k];
+            product ^= self.table[2 * k][(byte >> 4) as usize]
+                ^ self.table[2 * k + 1][(byte & 15) as usize];
+        }
+        product
+    }
+}
+
+// The product with x: a shift towards the last bit, which is replaced if it falls out.
+#[inline(always)]
+fn times_x(v: u128) -> u128
+    ensures { reversed result ≡ folded (reversed v * 2) }
+{
+    let carry = if v % 2 == 1 { REDUCTION } else { 0 };
+    (v / 2) ^ carry
+}
+
+// The sums of a, b, c and d, where a is for the highest bit of a half byte.
+#[inline(always)]
+fn sums(a: u128, b: u128, c: u128, d: u128) -> [u128; 16]
+    ensures { result ≡ 0 ∷ d ∷ c ∷ bit_xor c d ∷ b ∷ bit_xor b d ∷ bit_xor b c ∷ bit_xor b (bit_xor c d)
+        ∷ a ∷ bit_xor a d ∷ bit_xor a c ∷ bit_xor a (bit_xor c d)
+        ∷ bit_xor a b ∷ bit_xor (bit_xor a b) d ∷ bit_xor (bit_xor a b) c ∷ bit_xor (bit_xor a b) (bit_xor c d) ∷ [] }
+{
+    let ab = a ^ b;
+    let cd = c ^ d;
+    [
+        0,
+        d,
+        c,
+        cd,
+        b,
+        b ^ d,
+        b ^ c,
+        b ^ cd,
+        a,
+        a ^ d,
+        a ^ c,
+        a ^ cd,
+        ab,
+        ab ^ d,
+        ab ^ c,
+        ab ^ cd,
+    ]
+}
+
+// Writes the products of `h` with each value of each half byte. The first bit of a block is the coefficient of x^0.
+#[inline(always)]
+fn fill_table(table: &mut [[u128; 16]; 32], h: u128)
+    ensures { table.new ≡ table_of (reversed h) }
+{
+    let mut a = h;
+    for k in 0..32 {
+        let b = times_x(a);
+        let c = times_x(b);
+        let d = times_x(c);
+        table[k] = sums(a, b, c, d);
+        a = times_x(d);
+    }
+}
+
+// The numbers as blocks.
+#[inline(always)]
+fn blocks_of(row: &[u128; 16]) -> [[u8; 16]; 16]
+    ensures { result ≡ map (to_be_bytes w128) row.now }
+{
+    let mut spelled = [[0; 16]; 16];
+    for v in 0..16 {
+        spelled[v] = row[v].to_be_bytes();
+    }
+    spelled
+}
+
+#[cfg(test)]
+mod tests {
+    use super::*;
+
+    // Test case 2 of the GCM specification: the hash key, the ciphertext's block and their product.
+    const KEY: [u8; 16] = [
+        0x66, 0xe9, 0x4b, 0xd4, 0xef, 0x8a, 0x2c, 0x3b, 0x88, 0x4c, 0xfa, 0x59, 0xca, 0x34, 0x2b,
+        0x2e,
+    ];
+
+    const BLOCK: [u8; 16] = [
+        0x03, 0x88, 0xda, 0xce, 0x60, 0xb6, 0xa3, 0x92, 0xf3, 0x28, 0xc2, 0xb9, 0x71, 0xb2, 0xfe,
+        0x78,
+    ];
+
+    const PRODUCT: [u8; 16] = [
+        0x5e, 0x2e, 0xc7, 0x46, 0x91, 0x70, 0x62, 0x88, 0x2c, 0x85, 0xb0, 0x68, 0x53, 0x53, 0xde,
+        0xb7,
+    ];
+
+    #[test]
+    fn first_step_of_test_case_2(rt: HostRuntime) {
+        let key = HashKey::new(KEY);
+        assert_eq!(rt; key.mul(BLOCK), PRODUCT);
+        // the first bit of a block is the coefficient of x^0, and 1 times the key is the key
+        assert_eq!(rt; *key.row(8), KEY);
+    }
+}

@@ -1,0 +1,4 @@
+pub mod Horner
+pub mod Texts
+pub mod Lanes
+pub mod Pieces

@@ -1,0 +1,10 @@
+use Rattle.std.proofs.Common.{◌≡◌, ◌∙◌, sym, ap, subst, arith}
+use Rattle.gcm_seal.specs.Hashing.{IsHashOf}
+use Rattle.gcm_seal.proofs.Pieces.{tagged}
+use Rattle.gcm_seal.proofs.hasher.Hasher.finish.Goals as goal
+
+pub returns : goal.returns
+returns c = λ key nonce aad text r.
+    tagged _ c.spelled_lengths-lengths.result key nonce aad text c.masked.result c.absorb-with_rest.result c.absorb.result c.absorb.type_inv
+    (λ xs e. c.absorb-with_rest.ensures xs e) c.absorb.ensures c.spelled_lengths-lengths.ensures c.masked.ensures
+    (subst (λ v. IsHashOf v key nonce aad text) (sym c.self.view_is) r)

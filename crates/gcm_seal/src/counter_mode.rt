@@ -1,0 +1,82 @@
+// Counter mode (SP 800-38D, 6.5), four blocks at a time.
+ghost use Rattle.std.specs.Prelude.{◌≡◌, ℕ, ◌+◌, ◌-◌, ◌*◌, ◌^◌, ◌<◌, ◌≤◌, length, bit_xor, slice_index, replicate};
+ghost use Rattle.aes_block.specs.Aes.{aes};
+ghost use Rattle.aes_block.specs.FourBlocks.{lane_block};
+ghost use Rattle.gcm_seal.specs.Gcm.{counter_block, keystream_byte, gctr, hash_key};
+
+use aes_block::AesKey;
+use std::simd::prelude::*;
+
+// Counter mode over the buffer, from the counter `from`.
+pub(crate) fn apply(key: &AesKey, nonce: &[u8; 12], from: u32, buffer: &mut [u8])
+    requires few { length buffer.old ≤ 268435456 }
+    requires early { from < 16 }
+    ensures { buffer.new ≡ gctr key.now nonce.now from buffer.old }
+{
+    let whole = buffer.len() / 64;
+    for i in 0..whole {
+        let stream = keystream(key, nonce, from + 4 * i as u32);
+        add(buffer, 64 * i, &stream, 64);
+    }
+    let rest = buffer.len() - 64 * whole;
+    if rest > 0 {
+        let stream = keystream(key, nonce, from + 4 * whole as u32);
+        add(buffer, 64 * whole, &stream, rest);
+    }
+}
+
+// The hash subkey, and the block that a tag's hash is added to: the ciphers of zeros and of counter block 1.
+pub(crate) fn first_blocks(key: &AesKey, nonce: &[u8; 12]) -> ([u8; 16], [u8; 16])
+    ensures subkey { result.0 ≡ hash_key key.now }
+    ensures mask { result.1 ≡ aes key.now (counter_block nonce.now 1) }
+{
+    let [n0, n1, n2, n3, n4, n5, n6, n7, n8, n9, n10, n11] = *nonce;
+    let blocks = u8x64::from_array([
+        0, 0, 0, 0, 0, 0, 0, 0, 0, 0, 0, 0, 0, 0, 0, 0, n0, n1, n2, n3, n4, n5, n6, n7, n8, n9, n10,
+        n11, 0, 0, 0, 1, 0, 0, 0, 0, 0, 0, 0, 0, 0, 0, 0, 0, 0, 0, 0, 0, 0, 0, 0, 0, 0, 0, 0, 0, 0, 0,
+        0, 0, 0, 0, 0, 0,
+    ]);
+    let ciphers = key.encrypt_four(blocks);
+    (ciphers.extract::<0, 16>().to_array(), ciphers.extract::<16, 16>().to_array())
+}
+
+// Four ciphered counter blocks.
+#[inline(always)]
+fn keystream(key: &AesKey, nonce: &[u8; 12], from: u32) -> [u8; 64]
+    requires { from + 4 ≤ 2 ^ 32 }
+    ensures { (j : ℕ) → j < 64 → slice_index result j ≡ keystream_byte key.now nonce.now from j }
+{
+    key.encrypt_four(counter_blocks(nonce, from)).to_array()
+}
+
+#[inline(always)]
+fn counter_blocks(nonce: &[u8; 12], from: u32) -> u8x64
+    requires { from + 4 ≤ 2 ^ 32 }
+    ensures { (b : ℕ) → b < 4 → lane_block result b ≡ counter_block nonce.now (from + b) }
+{
+    let [n0, n1, n2, n3, n4, n5, n6, n7, n8, n9, n10, n11] = *nonce;
+    let [a0, a1, a2, a3] = from.to_be_bytes();
+    let [b0, b1, b2, b3] = (from + 1).to_be_bytes();
+    let [c0, c1, c2, c3] = (from + 2).to_be_bytes();
+    let [d0, d1, d2, d3] = (from + 3).to_be_bytes();
+    u8x64::from_array([
+        n0, n1, n2, n3, n4, n5, n6, n7, n8, n9, n10, n11, a0, a1, a2, a3, n0, n1, n2, n3, n4, n5, n6,
+        n7, n8, n9, n10, n11, b0, b1, b2, b3, n0, n1, n2, n3, n4, n5, n6, n7, n8, n9, n10, n11, c0, c1,
+        c2, c3, n0, n1, n2, n3, n4, n5, n6, n7, n8, n9, n10, n11, d0, d1, d2, d3,
+    ])
+}
+
+// Adds the first bytes of the stream to those of the buffer from `at` on.
+#[inline(always)]
+fn add(buffer: &mut [u8], at: usize, stream: &[u8; 64], count: usize)
+    requires in_stream { count ≤ 64 }
+    requires in_buffer { at + count ≤ length buffer.old }
+    ensures before { (k : ℕ) → k < at → slice_index buffer.new k ≡ slice_index buffer.old k }
+    ensures inside { (j : ℕ) → j < count
+        → slice_index buffer.new (at + j) ≡ bit_xor (slice_index buffer.old (at + j)) (slice_index stream.now j) }
+    ensures after { (k : ℕ) → at + count ≤ k → slice_index buffer.new k ≡ slice_index buffer.old k }
+{
+    for j in 0..count {
+        buffer[at + j] ^= stream[j];
+    }
+}

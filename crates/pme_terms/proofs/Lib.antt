@@ -1,0 +1,4 @@
+pub mod Xors
+pub mod Products
+pub mod Numbers
+pub mod Bytes
