@@ -1,4 +1,4 @@
-ghost use Rattle.std.specs.Prelude.{◌≡◌, ◌+◌, ◌-◌, ◌≤◌, ◌↔◌, ℕ, List, true, length, take, IsOk, IfOk, IfErr, OnErr};
+ghost use Rattle.std.specs.Prelude.{◌≡◌, ◌+◌, ◌-◌, ◌≤◌, ◌↔◌, ℕ, List, true, length, take, Ok, IsOk, IfOk, IfErr, OnErr};
 ghost use Rattle.std.specs.Int.{w32, to_le_bytes};
 ghost use Rattle.pme_base.specs.Steps.{Quiet};
 ghost use Rattle.crypto_module.specs.Frames as frames;
@@ -40,6 +40,7 @@ pub fn read_gcm(
     requires small_limit { limit ≤ 268435456 }
     ensures answer { opening.left_by result bytes.new ≡ opening.opened key.now aad.now place.now at limit fill bytes.old }
     ensures opened { IfOk result (λ open_module. opening.IsOpened key.now aad.now limit fill bytes.old bytes.new open_module) }
+    ensures consumed { IfOk result (λ open_module. frames.gcm_size place.now at limit fill bytes.old ≡ Ok open_module.consumed) }
     ensures accepted { IsOk result ↔ ((plain : List ℕ) × modules.HoldsGcm fill key.now aad.now plain limit bytes.old) }
     ensures unchanged { OnErr result (bytes.new ≡ bytes.old) }
     ensures quiet { Quiet result }
