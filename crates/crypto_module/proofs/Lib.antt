@@ -1,0 +1,4 @@
+pub mod Parts
+pub mod Sizes
+pub mod Sealed
+pub mod InPlace

@@ -1,0 +1,56 @@
+-- What comes of opening a module: its plaintext, or the refusal.
+use Rattle.std.specs.Prelude.{◌≡◌, ℕ, ◌+◌, ◌≤◌, ◌<◌, ◌↔◌, Bool, true, if◌then◌else◌, List, length, take, drop, slice_index, Result, Ok, Err}
+use Rattle.std.specs.Str.{bytes_eq}
+use Rattle.gcm_seal.specs.Gcm.{gctr, tag_of}
+use Rattle.pme_base.specs.declared.place.Place.{Place}
+use Rattle.pme_base.specs.declared.refusal.Cause.TheVariants.{BadTag}
+use Rattle.pme_base.specs.declared.refusal.Detail.TheVariants.{Tags}
+use Rattle.pme_base.specs.declared.refusal.Refusal.{Refusal}
+use Rattle.pme_base.specs.Refusals.{refusal_at}
+use Rattle.pme_base.specs.Steps.{◌>>=◌}
+use Rattle.crypto_module.specs.declared.gcm_module.OpenModule.{OpenModule}
+use Rattle.crypto_module.specs.Frames.{gcm_size}
+use Rattle.crypto_module.specs.Modules.{IsGcm, HoldsGcm, nonce_of, cipher_of, stored_of}
+
+-- the plaintext of a ciphertext, unless its tag is another than the stored one
+abbrev pub unsealed : List ℕ → List ℕ → Place → ℕ → List ℕ → List ℕ → List ℕ → Result (List ℕ) Refusal
+unsealed key aad place at nonce cipher stored =
+    if bytes_eq (tag_of key nonce aad cipher) stored
+    then Ok (gctr key nonce 2 cipher)
+    else Err (refusal_at BadTag place at (Tags (tag_of key nonce aad cipher) stored))
+
+-- the plaintext of a module that is as long as its length field says
+abbrev pub unsealed_whole : List ℕ → List ℕ → Place → ℕ → List ℕ → Result (List ℕ) Refusal
+unsealed_whole key aad place at bytes = unsealed key aad place at (nonce_of bytes) (cipher_of bytes) (stored_of bytes)
+
+-- the plaintext of the GCM module at the front of these bytes; with `fill` it must take up all of them
+abbrev pub opened : List ℕ → List ℕ → Place → ℕ → ℕ → Bool → List ℕ → Result (List ℕ) Refusal
+opened key aad place at limit fill bytes =
+    gcm_size place at limit fill bytes >>= (λ size. unsealed_whole key aad place at (take size bytes))
+
+-- the plaintext that a call left in the buffer, or its refusal
+abbrev pub left_by : Result OpenModule Refusal → List ℕ → Result (List ℕ) Refusal
+left_by (Ok open_module) buffer = Ok (take open_module.length (drop 16 buffer))
+left_by (Err refusal) buffer = Err refusal
+
+-- what a call that opened a module tells of the bytes before and after
+pub record IsOpened (key aad : List ℕ) (limit : ℕ) (fill : Bool) (before after : List ℕ) (open_module : OpenModule) : Type 0 where
+  pub module_at_front : IsGcm key aad (take open_module.length (drop 16 after)) limit (take open_module.consumed before)
+  pub held : HoldsGcm fill key aad (take open_module.length (drop 16 after)) limit before
+  pub consumed : open_module.consumed ≡ 32 + open_module.length
+  pub inside : open_module.consumed ≤ length before
+  pub fills : fill ≡ true → open_module.consumed ≡ length before
+  pub nonce : open_module.nonce ≡ nonce_of before
+  pub tag : open_module.tag ≡ stored_of (take open_module.consumed before)
+  pub front_stays : take 16 after ≡ take 16 before
+  pub rest_stays : drop (16 + open_module.length) after ≡ drop (16 + open_module.length) before
+
+-- each item is a byte
+abbrev pub AreBytes : List ℕ → Type 0
+AreBytes bytes = (i : ℕ) → slice_index bytes i < 256
+
+-- bytes open to a text exactly where they hold its module
+abbrev pub OpensExactly : Type 0
+OpensExactly =
+    (key aad plain : List ℕ) (place : Place) (at limit : ℕ) (fill : Bool) (bytes : List ℕ) → AreBytes bytes → limit ≤ 268435456
+    → (opened key aad place at limit fill bytes ≡ Ok plain) ↔ HoldsGcm fill key aad plain limit bytes
