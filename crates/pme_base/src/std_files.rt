@@ -98,7 +98,7 @@ fn read_from<F: Read + Seek>(file: &mut F, at: u64, into: &mut [u8]) -> io::Resu
             answer => return answer,
         }
     }
-    Ok(0)
+    Err(io::Error::from(ErrorKind::Interrupted))
 }
 
 impl<R: rt::Files + Drop> Files for StdFiles<R> {
