@@ -88,7 +88,8 @@ impl Hasher {
 
     /// The hash subkey, with its table.
     pub fn hash_key(&self) -> &HashKey
-        ensures { result.now ≡ self.now.key }
+        ensures kept { result.now ≡ self.now.key }
+        ensures subkey { (key nonce aad text : List ℕ) → IsHashOf self.now key nonce aad text → result.now ≡ hash_key key }
     {
         &self.key
     }

@@ -1,5 +1,5 @@
-// GCM (SP 800-38D) with nonces of 12 bytes and tags of 16: tags, and texts that are opened where they lie.
-// No memory is taken. The counter mode is in constant time; the hash looks its products up in a table.
+// GCM (SP 800-38D) with nonces of 12 bytes and tags of 16: texts sealed and opened where they lie, tags alone, and
+// counter mode alone. No memory is taken. The cipher is in constant time; the hash looks its products up in a table.
 #![tactic(auto)]
 
 ghost use Rattle.std.specs.Prelude.{◌≡◌, ℕ, List, [], ◌++◌, length, replicate};
