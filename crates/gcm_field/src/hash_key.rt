@@ -60,13 +60,15 @@ impl HashKey {
         ensures { reversed result ≡ field_mul (reversed x) (polynomial self.now) }
     {
         let bytes = x.to_be_bytes();
-        let mut product = 0;
+        // two sums, so that neither waits for the other
+        let mut high = 0;
+        let mut low = 0;
         for k in 0..16 {
             let byte = bytes[k];
-            product ^= self.table[2 * k][(byte >> 4) as usize]
-                ^ self.table[2 * k + 1][(byte & 15) as usize];
+            high ^= self.table[2 * k][(byte >> 4) as usize];
+            low ^= self.table[2 * k + 1][(byte & 15) as usize];
         }
-        product
+        high ^ low
     }
 }
 

@@ -12,14 +12,16 @@ pub(crate) fn gctr_in_place(key: &AesKey, nonce: &[u8; 12], first: u32, buffer: 
     requires { first + (length buffer.old + 15) / 16 ≤ 2 ^ 32 }
     ensures { buffer.new ≡ gctr key.now nonce.now first buffer.old }
 {
+    // a copy that the buffer can't alias
+    let own_nonce = *nonce;
     let whole = buffer.len() / 64;
     for i in 0..whole {
-        let stream = keystream(key, nonce, first + 4 * i as u32);
+        let stream = keystream(key, &own_nonce, first + 4 * i as u32);
         add(buffer, 64 * i, &stream, 64);
     }
     let rest = buffer.len() - 64 * whole;
     if rest > 0 {
-        let stream = keystream(key, nonce, first + 4 * whole as u32);
+        let stream = keystream(key, &own_nonce, first + 4 * whole as u32);
         add(buffer, 64 * whole, &stream, rest);
     }
 }

@@ -38,7 +38,8 @@ impl Hasher {
     /// Begins with the associated data, of 4,096 bytes at most. No ciphertext has come yet.
     pub fn new(key: &AesKey, nonce: &[u8; 12], aad: &[u8]) -> Hasher
         requires { length aad.now ≤ 4096 }
-        ensures { IsHashOf result key.now nonce.now aad.now [] }
+        ensures hash { IsHashOf result key.now nonce.now aad.now [] }
+        ensures length { result.length ≡ 0 }
     {
         let (subkey, mask) = first_blocks(key, nonce);
         let hash_key = HashKey::new(subkey);
@@ -57,7 +58,8 @@ impl Hasher {
     /// Takes the next piece of the ciphertext, which has 268,435,456 bytes at most with all its pieces.
     pub fn update(&mut self, ciphertext: &[u8])
         requires { self.old.length + length ciphertext.now ≤ 268435456 }
-        ensures { (key nonce aad text : List ℕ) → IsHashOf self.old key nonce aad text → IsHashOf self.new key nonce aad (text ++ ciphertext.now) }
+        ensures hash { (key nonce aad text : List ℕ) → IsHashOf self.old key nonce aad text → IsHashOf self.new key nonce aad (text ++ ciphertext.now) }
+        ensures length { self.new.length ≡ self.old.length + length ciphertext.now }
     {
         self.length += ciphertext.len();
         let room = 16 - self.filled;
@@ -86,7 +88,8 @@ impl Hasher {
 
     /// The hash subkey, with its table.
     pub fn hash_key(&self) -> &HashKey
-        ensures { result.now ≡ self.now.key }
+        ensures kept { result.now ≡ self.now.key }
+        ensures subkey { (key nonce aad text : List ℕ) → IsHashOf self.now key nonce aad text → result.now ≡ hash_key key }
     {
         &self.key
     }

@@ -1,5 +1,5 @@
-// GCM (SP 800-38D) with nonces of 12 bytes and tags of 16: tags, and texts that are opened where they lie.
-// No memory is taken. The counter mode is in constant time; the hash looks its products up in a table.
+// GCM (SP 800-38D) with nonces of 12 bytes and tags of 16: texts sealed and opened where they lie, tags alone, and
+// counter mode alone. No memory is taken. The cipher is in constant time; the hash looks its products up in a table.
 #![tactic(auto)]
 
 ghost use Rattle.std.specs.Prelude.{◌≡◌, ℕ, List, [], ◌++◌, length, replicate};
@@ -9,6 +9,8 @@ ghost use Rattle.gcm_seal.specs.Vectors.{zero_key, zero_nonce, tag_1, ciphertext
 mod counter_mode;
 mod hasher;
 mod sealed;
+#[cfg(test)]
+mod tests;
 
 pub use hasher::Hasher;
 pub use sealed::{BadTag, ctr_in_place, open_in_place, seal_in_place, sign, tag};

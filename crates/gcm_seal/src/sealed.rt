@@ -6,6 +6,9 @@ use crate::counter_mode::{ciphered, gctr_in_place};
 use crate::hasher::Hasher;
 use aes_block::AesKey;
 
+// The first counter of a text: the one before is spent on its tag.
+const FIRST_COUNTER: u32 = 2;
+
 /// A tag is not that of the text beside it.
 #[derive(Clone, Copy, Debug, PartialEq, Eq, Drop)]
 pub struct BadTag {
@@ -50,7 +53,7 @@ pub fn open_in_place(
             stored: *stored,
         });
     }
-    gctr_in_place(key, nonce, 2, buffer);
+    gctr_in_place(key, nonce, FIRST_COUNTER, buffer);
     Ok(())
 }
 
@@ -61,7 +64,7 @@ pub fn seal_in_place(key: &AesKey, nonce: &[u8; 12], aad: &[u8], buffer: &mut [u
     requires short_text { length buffer.old ≤ 268435456 }
     ensures { (buffer.new, result) ≡ seal key.now nonce.now aad.now buffer.old }
 {
-    gctr_in_place(key, nonce, 2, buffer);
+    gctr_in_place(key, nonce, FIRST_COUNTER, buffer);
     tag(key, nonce, aad, buffer)
 }
 
@@ -74,7 +77,7 @@ pub fn sign(key: &AesKey, nonce: &[u8; 12], aad: &[u8], plain: &[u8]) -> [u8; 16
     let mut hasher = Hasher::new(key, nonce, aad);
     for i in 0..(plain.len() + 63) / 64 {
         let piece = &plain[64 * i..plain.len().min(64 * i + 64)];
-        let ciphertext = ciphered(key, nonce, 2 + 4 * i as u32, piece);
+        let ciphertext = ciphered(key, nonce, FIRST_COUNTER + 4 * i as u32, piece);
         hasher.update(&ciphertext[..piece.len()]);
     }
     hasher.finish()

@@ -90,8 +90,8 @@ product_lt a b m (suc n) h =
 pub product-pow : (n b k : ℕ) → product_below (2 ^ n) b (suc n + k) ≡ b * 2 ^ n
 product-pow n b k =
     let below : product_below (2 ^ n) b n ≡ 0 =
-      product-same (2 ^ n) 0 b n (λ i h. bit_at-pow_other n i (omega arith) ∙ sym (bit_at-zero i))
-      ∙ ap (product_below 0 b) (let e : n ≡ 0 + n = omega arith in e) ∙ product_short 0 b 0 n (omega arith) ∙ product-none 0 b in
+    product-same (2 ^ n) 0 b n (λ i h. bit_at-pow_other n i (omega arith) ∙ sym (bit_at-zero i))
+    ∙ ap (product_below 0 b) (let e : n ≡ 0 + n = omega arith in e) ∙ product_short 0 b 0 n (omega arith) ∙ product-none 0 b in
     let one : 1 * (b * 2 ^ n) ≡ b * 2 ^ n = omega arith in
     product_short (2 ^ n) b (suc n) k (pow_below n (suc n) (omega arith))
     ∙ product-more (2 ^ n) b n ∙ (λ i. bit_xor (below i) (bit_at-pow_same n i * (b * 2 ^ n))) ∙ one

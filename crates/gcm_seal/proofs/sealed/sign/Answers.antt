@@ -20,7 +20,7 @@ next_piece text at width h =
 
 pub loop-i-init : goal.loop-i-init
 unfolding gctr
-loop-i-init c = c.new-hasher.ensures
+loop-i-init c = c.new-hasher.ensures.hash
 
 pub update-requires : goal.update-requires
 update-requires c =
@@ -49,4 +49,4 @@ loop-i-preserved c =
     ap (λ t. gctr key nonce 2 front ++ t) c.ciphered-ciphertext.ensures
     ∙ sym (gctr-append key nonce 2 (4 * i) front piece whole)
     ∙ ap (gctr key nonce 2) (ap (λ m. front ++ take (m - 64 * i) (drop (64 * i) plain)) c.min.ensures ∙ next_piece plain (64 * i) 64 (omega arith) ∙ ap (λ n. take n plain) next) in
-    subst (λ t. IsHashOf c.update.new.self key nonce c.args.aad.now t) joined (c.update.ensures key nonce c.args.aad.now (gctr key nonce 2 front) c.loop-i.invariant)
+    subst (λ t. IsHashOf c.update.new.self key nonce c.args.aad.now t) joined (c.update.ensures.hash key nonce c.args.aad.now (gctr key nonce 2 front) c.loop-i.invariant)

@@ -1,6 +1,7 @@
 use Rattle.std.proofs.Common.{◌≡◌, ◌+◌, ◌-◌, ◌*◌, ◌/◌, ◌%◌, ◌^◌, ◌<◌, [], bit_xor, bit_and, get_or, sym, ap, ◌∙◌, arith}
 use Rattle.std.specs.Int.{w128, from_be_bytes}
 use Rattle.std.proofs.lemmas.Nat.{and_mask}
+use Rattle.pme_terms.proofs.Xors.{xor_swap}
 use Rattle.pme_terms.proofs.Bytes.{get_or-bytes_high_first, byte_at-shr}
 use Rattle.gcm_field.specs.Field.{field_mul, reversed, polynomial}
 use Rattle.gcm_field.specs.Table.{multiple}
@@ -33,9 +34,10 @@ loop-k-preserved c =
     (λ i. get_or (get_or (c.self.invariant.table i) (2 * k + 1) []) ((ap (λ b. bit_and b 15) read ∙ and_mask (x / 2 ^ s % 256) 4) i) 0)
     ∙ table_at h (2 * k + 1) (x / 2 ^ s % 256 % 16) (omega arith) (omega arith)
     ∙ ap (λ m. multiple h (x / 2 ^ s % 256 % 16 * 2 ^ m)) (let e : 124 - 4 * (2 * k + 1) ≡ s = omega arith in e) in
-    let before : c.loop-k.product ≡ multiple h (x / 2 ^ (8 + s) * 2 ^ (8 + s)) =
+    let before : bit_xor c.loop-k.high c.loop-k.low ≡ multiple h (x / 2 ^ (8 + s) * 2 ^ (8 + s)) =
     c.loop-k.invariant ∙ ap (λ m. multiple h (x / 2 ^ m * 2 ^ m)) (let e : 128 - 8 * k ≡ 8 + s = omega arith in e) in
-    (λ i. bit_xor (before i) (bit_xor (high i) (low i))) ∙ next_byte h x s
+    xor_swap c.loop-k.high (get_or (get_or t (2 * k) []) (get_or c.to_be_bytes-bytes.result k 0 / 16) 0) c.loop-k.low (get_or (get_or t (2 * k + 1) []) (bit_and (get_or c.to_be_bytes-bytes.result k 0) 15) 0)
+    ∙ (λ i. bit_xor (before i) (bit_xor (high i) (low i))) ∙ next_byte h x s
 
 pub returns : goal.returns
 unfolding multiple

@@ -7,8 +7,8 @@ use Rattle.gcm_seal.proofs.Horner.{ghash-none}
 use Rattle.gcm_seal.proofs.Texts.{blocks-none}
 use Rattle.gcm_seal.proofs.hasher.Hasher.new.Goals as goal
 
-pub returns : goal.returns
-returns c =
+pub returns-clause-hash : goal.returns-clause-hash
+returns-clause-hash c =
     let h = polynomial c.new-hash_key.result in
     let aad = c.args.aad.now in
     record {

@@ -4,8 +4,8 @@ use Rattle.gcm_seal.specs.Hashing.{IsHashOf}
 use Rattle.gcm_seal.proofs.Pieces.{short_piece, long_piece, put_after}
 use Rattle.gcm_seal.proofs.hasher.Hasher.update.Goals as goal
 
-pub returns-then-ciphertext-room : goal.returns-then-ciphertext-room
-returns-then-ciphertext-room c = λ key nonce aad text r.
+pub returns-then-ciphertext-room-clause-hash : goal.returns-then-ciphertext-room-clause-hash
+returns-then-ciphertext-room-clause-hash c = λ key nonce aad text r.
     let bytes = c.args.ciphertext.now in
     let filled = c.self.inside.filled in
     let rest : take (filled + length bytes) c.put.new.block ≡ take filled c.self.inside.rest ++ bytes =
@@ -13,8 +13,8 @@ returns-then-ciphertext-room c = λ key nonce aad text r.
     short_piece _ (take (filled + length bytes) c.put.new.block) bytes key nonce aad text rest
     (subst (λ v. IsHashOf v key nonce aad text) (sym c.self.view_is) r)
 
-pub returns-else-ciphertext-room : goal.returns-else-ciphertext-room
-returns-else-ciphertext-room c = λ key nonce aad text r.
+pub returns-else-ciphertext-room-clause-hash : goal.returns-else-ciphertext-room-clause-hash
+returns-else-ciphertext-room-clause-hash c = λ key nonce aad text r.
     let bytes = c.args.ciphertext.now in
     let filled = c.self.inside.filled in
     let room = 16 - filled in
