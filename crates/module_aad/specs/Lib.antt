@@ -1,0 +1,2 @@
+pub use Rattle.pme_base.specs.Places
+pub mod Aad
