@@ -3,6 +3,7 @@ ghost use Rattle.std.specs.Prelude.{◌≡◌, [], ◌∷◌, ◌++◌, ◌==◌
 use crate::memory_error::OutOfMemory;
 use std::alloc::Global;
 use std::marker::Model;
+use std::mem;
 
 /// A list of bytes that owns its memory. A contract sees it as the list of its bytes.
 #[derive(Debug, Drop)]
@@ -41,6 +42,15 @@ impl Bytes {
     {
         let items = Vec::from_slice(alloc, bytes)?;
         Ok(Bytes { items })
+    }
+
+    /// Takes the bytes out without a copy, and leaves none. What was taken may be changed and put back by `from_vec`.
+    pub fn take(&mut self) -> Vec<u8>
+        ensures taken { result.items ≡ self.old }
+        ensures left { self.new ≡ [] }
+    {
+        let alloc = *self.items.allocator();
+        mem::replace(&mut self.items, Vec::new(alloc))
     }
 
     /// Adds one byte at the end.
