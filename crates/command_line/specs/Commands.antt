@@ -16,7 +16,7 @@ with_three _ _ _ make = None
 abbrev pub module_with : List ℕ → List ℕ → List ℕ → Option Command
 module_with key associated_data file =
     with_three (key_of_hex key) (associated_data_of_hex associated_data) (Some file)
-      (λ k a f. Some (command.Module k a f))
+    (λ k a f. Some (command.Module k a f))
 
 abbrev pub module_of : List (List ℕ) → Option Command
 module_of options =

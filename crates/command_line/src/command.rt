@@ -33,11 +33,7 @@ pub fn command_of(alloc: Global, words: &Words) -> Result<Option<Command>, OutOf
     }
 }
 
-fn command_with(
-    alloc: Global,
-    verb: Verb,
-    options: &[Text],
-) -> Result<Option<Command>, OutOfMemory>
+fn command_with(alloc: Global, verb: Verb, options: &[Text]) -> Result<Option<Command>, OutOfMemory>
     ensures { IfOk result (λ command. command ≡ defined.command_with verb options.now) }
 {
     if !are_options(verb, options) {

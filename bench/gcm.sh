@@ -1,0 +1,113 @@
+#!/usr/bin/env bash
+# Measures AES-128-GCM as this repository builds it beside OpenSSL without AES instructions, in one run:
+# open_in_place and seal_in_place in memory, and the whole of `pme module` on a module of 16 MiB. All times are
+# processor time, and of several runs the least counts.
+# It builds a throw-away program over a copy of the crates, and needs openssl and python3.
+set -eu
+top=$(cd "$(dirname "$0")/.." && pwd)
+work=$(mktemp -d)
+trap 'rm -rf "$work"' EXIT
+git -C "$work" init -q
+mkdir -p "$work/crates/gcm_bench/src"
+for name in pme_terms aes_block gcm_field gcm_seal; do
+    mkdir "$work/crates/$name"
+    (cd "$top/crates/$name" && cp -r src specs proofs "$work/crates/$name/" 2>/dev/null) || true
+done
+{ grep -E '^(pme_terms|aes_block|gcm_field|gcm_seal):' "$top/crates.txt"; echo 'gcm_bench: aes_block gcm_seal anyhow'; } > "$work/crates.txt"
+cat > "$work/crates/gcm_bench/src/main.rt" <<'RT'
+// Times opening and sealing, and writes a module of 16 MiB.
+#![tactic(auto)]
+
+use aes_block::AesKey;
+use anyhow::{Result, anyhow};
+use gcm_seal::{open_in_place, seal_in_place};
+use std::alloc::AllocError;
+use std::fs;
+use std::time::CpuClock;
+
+const NONCE: [u8; 12] = [0x5a; 12];
+
+fn text_of(rt: &HostRuntime, size: usize) -> Result<Vec<u8>, AllocError> {
+    vec![in rt.alloc(); 0xa5u8; size]
+}
+
+fn time_size(rt: &HostRuntime, key: &AesKey, text: &mut [u8], turns: u32) -> Result<()> {
+    let mut sealing = 0u128;
+    let mut opening = 0u128;
+    if text.len() > 268_435_456 {
+        return Ok(());
+    }
+    for _ in 0..turns {
+        let start = rt.thread_cpu_time()?;
+        let tag = seal_in_place(key, &NONCE, b"", text);
+        let sealed = rt.thread_cpu_time()?;
+        let opened = open_in_place(key, &NONCE, b"", text, &tag);
+        let end = rt.thread_cpu_time()?;
+        sealing = sealing.saturating_add(sealed.saturating_sub(start).as_nanos());
+        opening = opening.saturating_add(end.saturating_sub(sealed).as_nanos());
+        if opened.is_err() {
+            return Err(anyhow!("the tag differs"));
+        }
+    }
+    println!(rt; "{} {opening} {sealing} {turns}", text.len())?;
+    Ok(())
+}
+
+fn write_module(rt: &HostRuntime, key: &AesKey, text: &mut [u8]) -> Result<()> {
+    if text.len() > 16_777_216 {
+        return Ok(());
+    }
+    let tag = seal_in_place(key, &NONCE, b"", text);
+    let counted = text.len() as u32 + 28;
+    let mut all = vec![in rt.alloc()]?;
+    all.extend_from_slice(&counted.to_le_bytes())?;
+    all.extend_from_slice(&NONCE)?;
+    all.extend_from_slice(text)?;
+    all.extend_from_slice(&tag)?;
+    fs::write(rt, "module.bin", all.as_slice())?;
+    Ok(())
+}
+
+fn measure(rt: &HostRuntime, key: &AesKey, size: usize, turns: u32) -> Result<()> {
+    let mut text = text_of(rt, size)?;
+    time_size(rt, key, text.as_mut_slice(), turns)
+}
+
+fn main(rt: HostRuntime) -> Result<()> {
+    let key = AesKey::new(&[7; 16]).map_err(|_| anyhow!("no key"))?;
+    measure(&rt, &key, 256, 100_000)?;
+    measure(&rt, &key, 8192, 8192)?;
+    measure(&rt, &key, 1 << 20, 64)?;
+    measure(&rt, &key, 1 << 24, 4)?;
+    let mut text = text_of(&rt, 1 << 24)?;
+    write_module(&rt, &key, text.as_mut_slice())
+}
+RT
+(cd "$work/crates/gcm_bench" && rt run > "$work/ours.txt" 2> "$work/rt.log") || { tail -20 "$work/rt.log"; exit 1; }
+(cd "$top/crates/pme_cli" && rt run -- module > /dev/null 2>&1) || true
+cd "$work/crates/gcm_bench"
+python3 - "$work/ours.txt" "$top/crates/pme_cli/out/pme_cli" <<'PY'
+import os, re, subprocess, sys
+environment = dict(os.environ, OPENSSL_ia32cap="~0x200000200000000")
+def peer(size):
+    return max(speed(size) for _ in range(2))
+def speed(size):
+    words = ["openssl", "speed", "-seconds", "1", "-evp", "aes-128-gcm", "-bytes", str(size)]
+    last = subprocess.run(words, env=environment, capture_output=True, text=True).stdout.strip().split("\n")[-1]
+    return float(re.search(r"([0-9.]+)k", last)[1]) / 1000
+print(f"{'bytes':>9}  {'openssl':>8}  {'open':>8}  {'ratio':>5}  {'seal':>8}  {'ratio':>5}   (MB/s)")
+for line in open(sys.argv[1]):
+    size, opening, sealing, turns = map(int, line.split())
+    base, opens, seals = peer(size), size * turns * 1000 / opening, size * turns * 1000 / sealing
+    print(f"{size:9}  {base:8.1f}  {opens:8.1f}  {opens / base:5.2f}  {seals:8.1f}  {seals / base:5.2f}")
+budget = 2 * 16.777216 / peer(16777216)
+took, memory = [], 0
+for _ in range(5):
+    words = [sys.argv[2], "module", "--key", "07" * 16, "--aad", "", "--file", "module.bin"]
+    child = subprocess.Popen(words, stdout=subprocess.DEVNULL)
+    _, status, usage = os.wait4(child.pid, 0)
+    assert status == 0
+    took.append(usage.ru_utime + usage.ru_stime)
+    memory = max(memory, usage.ru_maxrss / 1024)
+print(f"pme module on 16 MiB: {min(took):.3f} s, twice openssl's time is {budget:.3f} s; {memory:.0f} MiB of memory at most")
+PY

@@ -1,0 +1,3 @@
+mod module;
+
+pub use module::module;

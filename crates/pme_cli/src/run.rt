@@ -1,0 +1,148 @@
+ghost use Rattle.std.specs.Prelude.{◌≡◌, ◌≤◌, ◌+◌, ◌⊎◌, true, false, IsNone, IfSome, IfErr};
+ghost use Rattle.command_line.specs.Commands as line;
+ghost use Rattle.pme_base.specs.declared.refusal.Cause.TheVariants as cause_of;
+ghost use Rattle.pme_base.specs.declared.outside.Trouble.TheVariants as trouble;
+ghost use Rattle.refusal_lines.specs.RefusalText as text;
+ghost use Rattle.pme_base.specs.Outside.{PutsFront, followed_by};
+ghost use Rattle.pme_terms.specs.Counts.{Rose};
+ghost use Rattle.pme_cli.specs.Outcomes.{outcome_of, number_of, last_line, StopsReading, StopsWriting};
+ghost use Rattle.pme_cli.specs.ModuleCommand.{ModuleAnswered, ModuleCompletes};
+ghost use Rattle.pme_cli.specs.Lines.{IfModule, UsageExactly, is_outcome, is_usage};
+
+use crate::commands;
+use crate::stop::{Stop, plain_stop};
+use command_line::{Command, command_of};
+use pme_base::{Bytes, Cause, Files, Random, Refusal, Sink, Trouble, Words};
+use refusal_lines::{refusal_line, status_number};
+use std::alloc::Global;
+
+/// How a run ended.
+#[derive(Drop)]
+pub struct Status {
+    /// What the process ends with: 0, or the number of the refusal's cause.
+    pub number: u8,
+    /// Why the command was refused.
+    pub refusal: Option<Refusal>,
+    /// The file that the refusal is about; empty where there is none.
+    pub subject: Bytes,
+    /// Why the refusal's line is not whole; None where it is, and where nothing was refused.
+    pub line: Option<Trouble>,
+}
+
+/// Does all that the program does: finds the command that the words are, and obeys it. On a refusal its line
+/// is the last that is written to `err`.
+pub fn run<F: Files, N: Random, O: Sink, E: Sink>(
+    alloc: Global,
+    words: &Words,
+    files: &mut F,
+    random: &mut N,
+    out: &mut O,
+    err: &mut E,
+) -> Status
+    ensures number { result.number ≡ number_of result.refusal }
+
+    // Words that are no line of the table, and only those, are refused as Usage.
+    ensures usage { UsageExactly (line.command_of words.now) (outcome_of result.refusal result.subject) }
+
+    ensures module { IfModule (line.command_of words.now) (λ key aad file. ModuleAnswered key aad file (F.published files.old) (O.written out.old) (O.written out.new) (outcome_of result.refusal result.subject)) }
+    ensures complete { IfModule (line.command_of words.now) (λ key aad file. ModuleCompletes key aad file (F.published files.old) (Rose (F.faults files.old) (F.faults files.new) ⊎ Rose (O.faults out.old) (O.faults out.new)) (outcome_of result.refusal result.subject)) }
+
+    // A fault comes only where the count of the object that failed rose in this call.
+    ensures reads { StopsReading (F.faults files.old) (F.faults files.new) (outcome_of result.refusal result.subject) }
+    ensures writes { StopsWriting (O.faults out.old) (O.faults out.new) (outcome_of result.refusal result.subject) }
+    ensures random { IfErr (outcome_of result.refusal result.subject) (λ stop. stop.refusal.cause ≡ cause_of.RandomFault → Rose (N.faults random.old) (N.faults random.new)) }
+
+    // The line of the refusal is written whole, or a front of it.
+    ensures whole { IsNone result.line → E.written err.new ≡ followed_by (last_line (outcome_of result.refusal result.subject)) (E.written err.old) }
+    ensures part { PutsFront (last_line (outcome_of result.refusal result.subject)) (E.written err.old) (E.written err.new) }
+    ensures line { IfSome result.line (λ t. t ≡ trouble.Failed → Rose (E.faults err.old) (E.faults err.new)) }
+    ensures quiet { IsNone result.refusal → IsNone result.line }
+
+    // What stands afterwards.
+    ensures published { F.published files.new ≡ F.published files.old }
+    ensures to_come { N.to_come random.new ≡ N.to_come random.old }
+    ensures given { F.given files.new ≤ F.given files.old + 16777248 }
+    ensures unread { IsNone (line.command_of words.now) → F.given files.new ≡ F.given files.old }
+{
+    match obey(alloc, words, files, out) {
+        Ok(()) => Status {
+            number: 0,
+            refusal: None,
+            subject: Bytes::new(alloc),
+            line: None,
+        },
+        Err(stop) => {
+            let line = put_line(alloc, &stop, err);
+            let number = status_number(stop.refusal.cause);
+            Status {
+                number,
+                refusal: Some(stop.refusal),
+                subject: stop.subject,
+                line,
+            }
+        }
+    }
+}
+
+/// Finds the command that the words are, and obeys it.
+fn obey<F: Files, O: Sink>(
+    alloc: Global,
+    words: &Words,
+    files: &mut F,
+    out: &mut O,
+) -> Result<(), Stop>
+    ensures usage { UsageExactly (line.command_of words.now) result }
+    ensures module { IfModule (line.command_of words.now) (λ key aad file. ModuleAnswered key aad file (F.published files.old) (O.written out.old) (O.written out.new) result) }
+    ensures complete { IfModule (line.command_of words.now) (λ key aad file. ModuleCompletes key aad file (F.published files.old) (Rose (F.faults files.old) (F.faults files.new) ⊎ Rose (O.faults out.old) (O.faults out.new)) result) }
+    ensures reads { StopsReading (F.faults files.old) (F.faults files.new) result }
+    ensures writes { StopsWriting (O.faults out.old) (O.faults out.new) result }
+    ensures causes { is_outcome result ≡ true }
+    ensures published { F.published files.new ≡ F.published files.old }
+    ensures given { F.given files.new ≤ F.given files.old + 16777248 }
+    ensures unread { IsNone (line.command_of words.now) → F.given files.new ≡ F.given files.old }
+{
+    match command_of(alloc, words) {
+        Ok(Some(command)) => dispatch(alloc, command, files, out),
+        Ok(None) => Err(plain_stop(alloc, Cause::Usage)),
+        Err(_) => Err(plain_stop(alloc, Cause::OutOfMemory)),
+    }
+}
+
+fn dispatch<F: Files, O: Sink>(
+    alloc: Global,
+    command: Command,
+    files: &mut F,
+    out: &mut O,
+) -> Result<(), Stop>
+    ensures module { IfModule (Some command) (λ key aad file. ModuleAnswered key aad file (F.published files.old) (O.written out.old) (O.written out.new) result) }
+    ensures complete { IfModule (Some command) (λ key aad file. ModuleCompletes key aad file (F.published files.old) (Rose (F.faults files.old) (F.faults files.new) ⊎ Rose (O.faults out.old) (O.faults out.new)) result) }
+    ensures not_usage { is_usage result ≡ false }
+    ensures reads { StopsReading (F.faults files.old) (F.faults files.new) result }
+    ensures writes { StopsWriting (O.faults out.old) (O.faults out.new) result }
+    ensures causes { is_outcome result ≡ true }
+    ensures published { F.published files.new ≡ F.published files.old }
+    ensures given { F.given files.new ≤ F.given files.old + 16777248 }
+{
+    match command {
+        Command::Module {
+            key,
+            associated_data,
+            file,
+        } => commands::module(alloc, key, associated_data, file, files, out),
+    }
+}
+
+/// Writes the line of a refusal in one step; what is answered says why it isn't whole.
+fn put_line<E: Sink>(alloc: Global, stop: &Stop, err: &mut E) -> Option<Trouble>
+    ensures whole { IsNone result → E.written err.new ≡ followed_by (text.refusal_line stop.now.refusal stop.now.subject) (E.written err.old) }
+    ensures part { PutsFront (text.refusal_line stop.now.refusal stop.now.subject) (E.written err.old) (E.written err.new) }
+    ensures failed { IfSome result (λ t. t ≡ trouble.Failed → Rose (E.faults err.old) (E.faults err.new)) }
+{
+    match refusal_line(alloc, &stop.refusal, stop.subject.as_slice()) {
+        Ok(line) => match err.put(line.as_slice()) {
+            Ok(()) => None,
+            Err(trouble) => Some(trouble),
+        },
+        Err(_) => Some(Trouble::OutOfMemory),
+    }
+}
