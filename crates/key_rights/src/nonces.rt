@@ -29,12 +29,6 @@ pub enum NonceRefusal {
     OutOfMemory,
 }
 
-impl From<OutOfMemory> for NonceRefusal {
-    fn from(_error: OutOfMemory) -> NonceRefusal {
-        NonceRefusal::OutOfMemory
-    }
-}
-
 /// A set of nonces, each with its owner. Its time grows with the logarithm of their number.
 #[derive(Drop)]
 pub struct NonceSet {

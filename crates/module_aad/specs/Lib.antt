@@ -1,2 +1,1 @@
-pub use Rattle.pme_base.specs.Places
 pub mod Aad
