@@ -31,7 +31,7 @@ cipher_part size bytes least inside =
     ∙ take-take (size - 16 - 16) (size - 16) (drop 16 bytes) (omega arith))
 
 -- its nonce
-pub nonce_part : (size : ℕ) (bytes : List ℕ) → 32 ≤ size → nonce_of (take size bytes) ≡ nonce_of bytes
+pub nonce_part : (size : ℕ) (bytes : List ℕ) → 16 ≤ size → nonce_of (take size bytes) ≡ nonce_of bytes
 nonce_part size bytes least =
     let whole : size ≡ 4 + (size - 4) = omega arith in
     ap (λ k. take 12 (drop 4 (take k bytes))) whole ∙ ap (take 12) (drop-take 4 (size - 4) bytes)
@@ -101,7 +101,7 @@ left_open key aad limit fill bytes size nonce tag buffer field sized nonce_is st
       consumed = omega arith;
       inside = inside;
       fills = sized.fills;
-      nonce = nonce_is ∙ nonce_part size bytes least;
+      nonce = nonce_is ∙ nonce_part size bytes (omega arith);
       tag = stored_is;
       front_stays = take-put_mid_below 16 (size - 16 - 16) bytes buffer 16 (omega arith) (omega arith);
       rest_stays = drop-put_mid 16 (size - 16 - 16) bytes buffer (16 + (size - 32)) (omega arith) (omega arith) long;

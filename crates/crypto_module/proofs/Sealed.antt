@@ -15,7 +15,7 @@ use Rattle.crypto_module.specs.Opening.{unsealed, unsealed_whole, opened, AreByt
 use Rattle.crypto_module.proofs.Parts.{cut, HasParts, joined}
 use Rattle.crypto_module.proofs.Sizes.{IsSized, sized_is, sized_from}
 
-bind_ok : {S T E : Type 0} (r : Result S E) (f : S → Result T E) (t : T) → (r >>= f) ≡ Ok t → (s : S) × (r ≡ Ok s) × (f s ≡ Ok t)
+pub bind_ok : {S T E : Type 0} (r : Result S E) (f : S → Result T E) (t : T) → (r >>= f) ≡ Ok t → (s : S) × (r ≡ Ok s) × (f s ≡ Ok t)
 bind_ok (Ok s) f t e = (s, refl, e)
 bind_ok (Err x) f t e = cc
 
@@ -26,7 +26,7 @@ tested_ok false x t y e = cc
 pub same_bytes : (xs : List ℕ) → bytes_eq xs xs ≡ true
 same_bytes xs = (bytes_eq-Decides xs xs).1 refl
 
-take_length : (n : ℕ) (xs : List ℕ) → take (length (take n xs)) xs ≡ take n xs
+pub take_length : (n : ℕ) (xs : List ℕ) → take (length (take n xs)) xs ≡ take n xs
 take_length n xs = ap (λ k. take k xs) (length-take n xs) ∙ take_min n xs
 
 pub when_true : {X : Type 0} (b : Bool) (x y : X) → b ≡ true → (if b then x else y) ≡ x
@@ -37,7 +37,7 @@ pub when_false : {X : Type 0} (b : Bool) (x y : X) → (b ≡ true → ⊥) → 
 when_false true x y e = absurd (e refl)
 when_false false x y e = refl
 
-below_take : (n : ℕ) (xs : List ℕ) → AreBytes xs → AreBytes (take n xs)
+pub below_take : (n : ℕ) (xs : List ℕ) → AreBytes xs → AreBytes (take n xs)
 below_take zero xs h i = lit< tt
 below_take (suc n) [] h i = lit< tt
 below_take (suc n) (x ∷ xs) h zero = h zero
@@ -95,28 +95,42 @@ sealed_if_opened key aad plain place at limit fill bytes each e =
     holds fill key aad plain limit bytes size sized.fills
     (subst (λ (p : List ℕ). IsGcm key aad p limit m) plain_is (front_sealed key aad limit fill bytes size (field_is limit fill bytes size each sized) sized tag_is))
 
--- a module at the front of bytes opens to its text
-pub opened_if_sealed : (key aad plain : List ℕ) (place : Place) (at limit : ℕ) (fill : Bool) (bytes : List ℕ) (n : ℕ) → limit ≤ 268435456
-    → (fill ≡ true → length bytes ≤ n) → IsGcm key aad plain limit (take n bytes) → opened key aad place at limit fill bytes ≡ Ok plain
-opened_if_sealed key aad plain place at limit fill bytes n small fills s =
+-- the parts of a module at the front of bytes, and the size that its frame gives
+pub parts_of : (key aad plain : List ℕ) (limit : ℕ) (m : List ℕ) → (s : IsGcm key aad plain limit m)
+    → HasParts m (to_le_bytes w32 (28 + length s.cipher)) s.nonce s.cipher (tag_of key s.nonce aad s.cipher)
+parts_of key aad plain limit m s =
+    joined m (to_le_bytes w32 (28 + length s.cipher)) s.nonce s.cipher (tag_of key s.nonce aad s.cipher) s.layout refl s.nonce_length (length-tag_of key s.nonce aad s.cipher)
+
+pub text_length : (key aad plain : List ℕ) (limit : ℕ) (m : List ℕ) → (s : IsGcm key aad plain limit m) → length s.cipher ≡ length plain
+text_length key aad plain limit m s = ap length s.encrypted ∙ length-gctr key s.nonce 2 plain
+
+pub sized_if_sealed : (key aad plain : List ℕ) (limit : ℕ) (fill : Bool) (bytes : List ℕ) (n : ℕ) → limit ≤ 268435456
+    → (fill ≡ true → length bytes ≤ n) → IsGcm key aad plain limit (take n bytes) → IsSized limit fill bytes (length (take n bytes))
+sized_if_sealed key aad plain limit fill bytes n small fills s =
     let m = take n bytes in
-    let front = to_le_bytes w32 (28 + length s.cipher) in
-    let parts : HasParts m front s.nonce s.cipher (tag_of key s.nonce aad s.cipher) =
-    joined m front s.nonce s.cipher (tag_of key s.nonce aad s.cipher) s.layout refl s.nonce_length (length-tag_of key s.nonce aad s.cipher) in
-    let text : length s.cipher ≡ length plain = ap length s.encrypted ∙ length-gctr key s.nonce 2 plain in
+    let parts = parts_of key aad plain limit m s in
+    let text : length s.cipher ≡ length plain = text_length key aad plain limit m s in
     let there : length m ≡ min n (length bytes) = length-take n bytes in
     let fits : 28 + length s.cipher < 2 ^ 32 = omega (arith, s.within) in
     let four : 4 ≤ n = omega (arith, parts.long) in
     let counted : from_le_bytes w32 (take 4 bytes) ≡ length m - 4 =
     ap (from_le_bytes w32) (sym (take-take 4 n bytes four) ∙ parts.head_is) ∙ from_le_bytes-to_le_bytes_4 (28 + length s.cipher) fits ∙ (let k : 28 + length s.cipher ≡ length m - 4 = omega (arith, parts.long) in k) in
-    let sized : IsSized limit fill bytes (length m) = record {
+    record {
       least = omega (arith, parts.long);
       limited = omega (arith, parts.long, s.within);
       inside = omega arith;
       fills = λ h. let all : length bytes ≤ n = fills h in omega arith;
       counted = counted;
-    } in
-    let framed : gcm_size place at limit fill bytes ≡ Ok (length m) = sized_from place at limit fill bytes (length m) sized in
+    }
+
+-- a module at the front of bytes opens to its text
+pub opened_if_sealed : (key aad plain : List ℕ) (place : Place) (at limit : ℕ) (fill : Bool) (bytes : List ℕ) (n : ℕ) → limit ≤ 268435456
+    → (fill ≡ true → length bytes ≤ n) → IsGcm key aad plain limit (take n bytes) → opened key aad place at limit fill bytes ≡ Ok plain
+opened_if_sealed key aad plain place at limit fill bytes n small fills s =
+    let m = take n bytes in
+    let parts = parts_of key aad plain limit m s in
+    let framed : gcm_size place at limit fill bytes ≡ Ok (length m) =
+    sized_from place at limit fill bytes (length m) (sized_if_sealed key aad plain limit fill bytes n small fills s) in
     let plain_is : gctr key s.nonce 2 s.cipher ≡ plain = ap (gctr key s.nonce 2) s.encrypted ∙ gctr_twice key s.nonce 2 plain in
     ap (λ r. r >>= (λ size. unsealed_whole key aad place at (take size bytes))) framed
     ∙ ap (unsealed_whole key aad place at) (take_length n bytes)

@@ -43,6 +43,10 @@ framed_in fill kind place at limit head room = framed kind place at limit head r
 abbrev pub gcm_size : Place → ℕ → ℕ → Bool → List ℕ → Result ℕ Refusal
 gcm_size place at limit fill bytes = framed_in fill Gcm place at limit (take 4 bytes) (length bytes - 4)
 
+-- the size of the CTR module at the front of these bytes
+abbrev pub ctr_size : Place → ℕ → ℕ → List ℕ → Result ℕ Refusal
+ctr_size place at limit bytes = framed Ctr place at limit (take 4 bytes) (length bytes - 4)
+
 -- the causes of a frame, and of a module
 abbrev pub is_frame_cause : Cause → Bool
 is_frame_cause Truncated = true

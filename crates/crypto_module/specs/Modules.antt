@@ -1,7 +1,11 @@
--- A sealed module, as Parquet's encryption lays it out: the length field, the nonce, the ciphertext, the tag.
+-- A module, as Parquet's encryption lays it out: the length field, the nonce, the ciphertext and, in GCM, the tag.
 use Rattle.std.specs.Prelude.{◌≡◌, ℕ, ◌+◌, ◌-◌, ◌≤◌, ◌++◌, Bool, true, false, List, length, take, drop}
 use Rattle.std.specs.Int.{w32, to_le_bytes}
 use Rattle.gcm_seal.specs.Gcm.{gctr, tag_of}
+
+-- a length field and the parts that it counts
+abbrev pub parts : List ℕ → List ℕ → List ℕ → List ℕ
+parts nonce text tag = to_le_bytes w32 (12 + length text + length tag) ++ (nonce ++ (text ++ tag))
 
 -- the layout of a GCM module
 abbrev pub gcm_module : List ℕ → List ℕ → List ℕ → List ℕ
@@ -21,6 +25,30 @@ abbrev pub HoldsGcm : Bool → List ℕ → List ℕ → List ℕ → ℕ → Li
 HoldsGcm true key aad plain limit bytes = IsGcm key aad plain limit bytes
 HoldsGcm false key aad plain limit bytes = (n : ℕ) × IsGcm key aad plain limit (take n bytes)
 
+-- the layout of a CTR module
+abbrev pub ctr_module : List ℕ → List ℕ → List ℕ
+ctr_module nonce cipher = to_le_bytes w32 (12 + length cipher) ++ (nonce ++ cipher)
+
+-- these bytes are the CTR module of `plain` under some nonce; counter mode begins with counter 1
+pub record IsCtr (key plain : List ℕ) (limit : ℕ) (bytes : List ℕ) : Type 0 where
+  pub nonce : List ℕ
+  pub nonce_length : length nonce ≡ 12
+  pub cipher : List ℕ
+  pub within : length plain ≤ limit
+  pub encrypted : cipher ≡ gctr key nonce 1 plain
+  pub layout : bytes ≡ ctr_module nonce cipher
+
+-- a CTR module stands at the front of these bytes
+abbrev pub HoldsCtr : List ℕ → List ℕ → ℕ → List ℕ → Type 0
+HoldsCtr key plain limit bytes = (n : ℕ) × IsCtr key plain limit (take n bytes)
+
+-- the modules of a plaintext under this nonce
+abbrev pub sealed_gcm : List ℕ → List ℕ → List ℕ → List ℕ → List ℕ
+sealed_gcm key aad nonce plain = gcm_module nonce (gctr key nonce 2 plain) (tag_of key nonce aad (gctr key nonce 2 plain))
+
+abbrev pub sealed_ctr : List ℕ → List ℕ → List ℕ → List ℕ
+sealed_ctr key nonce plain = ctr_module nonce (gctr key nonce 1 plain)
+
 -- the parts of a module
 abbrev pub nonce_of : List ℕ → List ℕ
 nonce_of bytes = take 12 (drop 4 bytes)
@@ -30,3 +58,7 @@ cipher_of bytes = take (length bytes - 32) (drop 16 bytes)
 
 abbrev pub stored_of : List ℕ → List ℕ
 stored_of bytes = drop (length bytes - 16) bytes
+
+-- without a tag
+abbrev pub ctr_cipher_of : List ℕ → List ℕ
+ctr_cipher_of bytes = drop 16 bytes

@@ -1,5 +1,5 @@
 -- What comes of opening a module: its plaintext, or the refusal.
-use Rattle.std.specs.Prelude.{◌≡◌, ℕ, ◌+◌, ◌≤◌, ◌<◌, ◌↔◌, Bool, true, if◌then◌else◌, List, length, take, drop, slice_index, Result, Ok, Err}
+use Rattle.std.specs.Prelude.{◌≡◌, ℕ, ◌+◌, ◌≤◌, ◌<◌, ◌↔◌, Bool, true, if◌then◌else◌, List, [], ◌++◌, length, take, drop, replicate, slice_index, Result, Ok, Err}
 use Rattle.std.specs.Str.{bytes_eq}
 use Rattle.gcm_seal.specs.Gcm.{gctr, tag_of}
 use Rattle.pme_base.specs.declared.place.Place.{Place}
@@ -9,8 +9,8 @@ use Rattle.pme_base.specs.declared.refusal.Refusal.{Refusal}
 use Rattle.pme_base.specs.Refusals.{refusal_at}
 use Rattle.pme_base.specs.Steps.{◌>>=◌}
 use Rattle.crypto_module.specs.declared.gcm_module.OpenModule.{OpenModule}
-use Rattle.crypto_module.specs.Frames.{gcm_size}
-use Rattle.crypto_module.specs.Modules.{IsGcm, HoldsGcm, nonce_of, cipher_of, stored_of}
+use Rattle.crypto_module.specs.Frames.{gcm_size, ctr_size}
+use Rattle.crypto_module.specs.Modules.{IsGcm, HoldsGcm, IsCtr, HoldsCtr, sealed_gcm, sealed_ctr, nonce_of, cipher_of, ctr_cipher_of, stored_of}
 
 -- the plaintext of a ciphertext, unless its tag is another than the stored one
 abbrev pub unsealed : List ℕ → List ℕ → Place → ℕ → List ℕ → List ℕ → List ℕ → Result (List ℕ) Refusal
@@ -27,6 +27,11 @@ unsealed_whole key aad place at bytes = unsealed key aad place at (nonce_of byte
 abbrev pub opened : List ℕ → List ℕ → Place → ℕ → ℕ → Bool → List ℕ → Result (List ℕ) Refusal
 opened key aad place at limit fill bytes =
     gcm_size place at limit fill bytes >>= (λ size. unsealed_whole key aad place at (take size bytes))
+
+-- the plaintext of the CTR module at the front of these bytes
+abbrev pub opened_ctr : List ℕ → Place → ℕ → ℕ → List ℕ → Result (List ℕ) Refusal
+opened_ctr key place at limit bytes =
+    ctr_size place at limit bytes >>= (λ size. Ok (gctr key (nonce_of bytes) 1 (ctr_cipher_of (take size bytes))))
 
 -- the plaintext that a call left in the buffer, or its refusal
 abbrev pub left_by : Result OpenModule Refusal → List ℕ → Result (List ℕ) Refusal
@@ -45,6 +50,16 @@ pub record IsOpened (key aad : List ℕ) (limit : ℕ) (fill : Bool) (before aft
   pub front_stays : take 16 after ≡ take 16 before
   pub rest_stays : drop (16 + open_module.length) after ≡ drop (16 + open_module.length) before
 
+-- the same of a CTR module
+pub record IsCtrOpened (key : List ℕ) (limit : ℕ) (before after : List ℕ) (open_module : OpenModule) : Type 0 where
+  pub module_at_front : IsCtr key (take open_module.length (drop 16 after)) limit (take open_module.consumed before)
+  pub consumed : open_module.consumed ≡ 16 + open_module.length
+  pub inside : open_module.consumed ≤ length before
+  pub nonce : open_module.nonce ≡ nonce_of before
+  pub tag : open_module.tag ≡ replicate 16 0
+  pub front_stays : take 16 after ≡ take 16 before
+  pub rest_stays : drop (16 + open_module.length) after ≡ drop (16 + open_module.length) before
+
 -- each item is a byte
 abbrev pub AreBytes : List ℕ → Type 0
 AreBytes bytes = (i : ℕ) → slice_index bytes i < 256
@@ -54,3 +69,32 @@ abbrev pub OpensExactly : Type 0
 OpensExactly =
     (key aad plain : List ℕ) (place : Place) (at limit : ℕ) (fill : Bool) (bytes : List ℕ) → AreBytes bytes → limit ≤ 268435456
     → (opened key aad place at limit fill bytes ≡ Ok plain) ↔ HoldsGcm fill key aad plain limit bytes
+
+abbrev pub CtrOpensExactly : Type 0
+CtrOpensExactly =
+    (key plain : List ℕ) (place : Place) (at limit : ℕ) (bytes : List ℕ) → AreBytes bytes → limit ≤ 268435456
+    → (opened_ctr key place at limit bytes ≡ Ok plain) ↔ HoldsCtr key plain limit bytes
+
+-- these bytes are read as the GCM module of a plaintext under this nonce
+pub record ReadsAsGcm (key aad nonce plain : List ℕ) (place : Place) (at limit : ℕ) (fill : Bool) (bytes : List ℕ) : Type 0 where
+  pub opens : opened key aad place at limit fill bytes ≡ Ok plain
+  pub size_is : gcm_size place at limit fill bytes ≡ Ok (32 + length plain)
+  pub nonce_is : nonce_of bytes ≡ nonce
+  pub tag_is : stored_of (take (32 + length plain) bytes) ≡ tag_of key nonce aad (gctr key nonce 2 plain)
+
+-- the same of its CTR module
+pub record ReadsAsCtr (key nonce plain : List ℕ) (place : Place) (at limit : ℕ) (bytes : List ℕ) : Type 0 where
+  pub opens : opened_ctr key place at limit bytes ≡ Ok plain
+  pub size_is : ctr_size place at limit bytes ≡ Ok (16 + length plain)
+  pub nonce_is : nonce_of bytes ≡ nonce
+
+-- a sealed module is read to what was sealed, also where bytes follow it and it need not fill
+abbrev pub GcmReadsBack : Type 0
+GcmReadsBack =
+    (key aad nonce plain rest : List ℕ) (place : Place) (at limit : ℕ) (fill : Bool) → length nonce ≡ 12 → length plain ≤ limit
+    → limit ≤ 268435456 → (fill ≡ true → rest ≡ []) → ReadsAsGcm key aad nonce plain place at limit fill (sealed_gcm key aad nonce plain ++ rest)
+
+abbrev pub CtrReadsBack : Type 0
+CtrReadsBack =
+    (key nonce plain rest : List ℕ) (place : Place) (at limit : ℕ) → length nonce ≡ 12 → length plain ≤ limit → limit ≤ 268435456
+    → ReadsAsCtr key nonce plain place at limit (sealed_ctr key nonce plain ++ rest)

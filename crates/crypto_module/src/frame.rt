@@ -31,7 +31,7 @@ pub fn extent(
 ) -> Result<u64, Refusal>
     ensures framed { result ≡ frames.framed kind place.now at limit head.now room }
     ensures whole { IfOk result (λ size. size ≤ 4 + room) }
-    ensures limited { IfOk result (λ size. size ≤ limit + 32) }
+    ensures limited { IfOk result (λ size. size ≤ 4 + frames.overhead kind + limit) }
     ensures least { IfOk result (λ size. 4 + frames.overhead kind ≤ size) }
     ensures there { IfOk result (λ _. 4 ≤ length head.now) }
     ensures field { IfOk result (λ size. to_le_bytes w32 (size - 4) ≡ take 4 head.now) }
@@ -68,7 +68,7 @@ pub fn filling_extent(
 ) -> Result<u64, Refusal>
     ensures framed { result ≡ frames.framed_in true kind place.now at limit head.now room }
     ensures whole { IfOk result (λ size. size ≡ 4 + room) }
-    ensures limited { IfOk result (λ size. size ≤ limit + 32) }
+    ensures limited { IfOk result (λ size. size ≤ 4 + frames.overhead kind + limit) }
     ensures least { IfOk result (λ size. 4 + frames.overhead kind ≤ size) }
     ensures there { IfOk result (λ _. 4 ≤ length head.now) }
     ensures field { IfOk result (λ size. to_le_bytes w32 (size - 4) ≡ take 4 head.now) }

@@ -11,7 +11,7 @@ use gcm_seal::open_in_place;
 use pme_base::{Cause, Detail, Place, Refusal, refusal_at};
 
 /// A module that was opened: how long its plaintext is, how many bytes the whole module takes, and the nonce and
-/// the tag that it was sealed with.
+/// the tag that it was sealed with. Without a tag, as in a CTR module, it has zeros.
 #[derive(Clone, Copy, Debug, PartialEq, Eq, Drop)]
 pub struct OpenModule {
     pub length: usize,
@@ -83,7 +83,7 @@ fn gcm_size(place: &Place, at: u64, limit: u32, fill: bool, bytes: &[u8]) -> Res
 }
 
 /// The nonce of a module.
-fn nonce_of(bytes: &[u8]) -> [u8; 12]
+pub(crate) fn nonce_of(bytes: &[u8]) -> [u8; 12]
     requires { 16 ≤ length bytes.now }
     ensures { result ≡ modules.nonce_of bytes.now }
 {

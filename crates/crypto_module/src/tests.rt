@@ -1,6 +1,9 @@
-use crate::{ModuleKind, OpenModule, extent, filling_extent, read_gcm};
+use crate::{
+    ModuleKind, ModuleRefusal, OpenModule, extent, filling_extent, read_ctr, read_gcm, write_ctr,
+    write_gcm,
+};
 use aes_block::AesKey;
-use pme_base::{Cause, Detail, Place, Refusal, refusal_at};
+use pme_base::{Bytes, Cause, Detail, Place, Refusal, refusal_at};
 use std::test::Fail;
 
 const LIMIT: u32 = 16_777_216;
@@ -15,6 +18,13 @@ const ZERO_TEXT: [u8; 48] = [
     44, 0, 0, 0, 0, 0, 0, 0, 0, 0, 0, 0, 0, 0, 0, 0, 3, 136, 218, 206, 96, 182, 163, 146, 243, 40,
     194, 185, 113, 178, 254, 120, 171, 110, 71, 212, 44, 236, 19, 189, 245, 58, 103, 178, 18, 87,
     189, 223,
+];
+
+// 32 zeros under the same key and nonce in counter mode alone: the standard's counter blocks 1 and 2.
+const COUNTER_TEXT: [u8; 48] = [
+    44, 0, 0, 0, 0, 0, 0, 0, 0, 0, 0, 0, 0, 0, 0, 0, 88, 226, 252, 206, 250, 126, 48, 97, 54, 127,
+    29, 87, 164, 231, 69, 90, 3, 136, 218, 206, 96, 182, 163, 146, 243, 40, 194, 185, 113, 178,
+    254, 120,
 ];
 
 const EMPTY_TAG: [u8; 16] = [
@@ -129,4 +139,50 @@ fn sizes_modules_without_a_tag(rt: HostRuntime) {
     assert_eq!(rt; sized(12, 11), Err(refused(Cause::Truncated, 16, 15)));
     let filling = filling_extent(ModuleKind::Ctr, &place, 0, LIMIT, &[12, 0, 0, 0], 12);
     assert_eq!(rt; filling, Ok(16));
+}
+
+#[test]
+fn opens_and_writes_counter_mode(rt: HostRuntime) -> Result<(), Fail> {
+    let key = AesKey::new(&[0; 16])?;
+    let mut bytes = COUNTER_TEXT;
+    let opened = read_ctr(&key, &Place::loose(), 0, LIMIT, &mut bytes)?;
+    let expected = OpenModule {
+        length: 32,
+        consumed: 48,
+        nonce: [0; 12],
+        tag: [0; 16],
+    };
+    assert_eq!(rt; opened, expected);
+    assert_eq!(rt; &bytes[16..], [0; 32].as_slice());
+    let mut written = Bytes::new(rt.alloc());
+    write_ctr(&key, &[0; 12], 32, &[0; 32], &mut written)?;
+    assert_eq!(rt; written.as_slice(), COUNTER_TEXT.as_slice());
+    Ok(())
+}
+
+#[test]
+fn writes_the_standards_text_up_to_its_limit(rt: HostRuntime) -> Result<(), Fail> {
+    let key = AesKey::new(&[0; 16])?;
+    let mut written = Bytes::copy_of(rt.alloc(), &[7, 8])?;
+    let refused = write_gcm(&key, &[], &[0; 12], 15, &[0; 16], &mut written);
+    assert_eq!(rt; refused, Err(ModuleRefusal::TooLarge));
+    assert_eq!(rt; written.as_slice(), [7, 8].as_slice());
+    write_gcm(&key, &[], &[0; 12], 16, &[0; 16], &mut written)?;
+    assert_eq!(rt; &written.as_slice()[2..], ZERO_TEXT.as_slice());
+    Ok(())
+}
+
+#[test]
+fn reads_back_what_it_wrote(rt: HostRuntime) -> Result<(), Fail> {
+    let key = AesKey::new(&[3; 16])?;
+    let mut written = Bytes::copy_of(rt.alloc(), &[7, 8])?;
+    write_gcm(&key, &[1, 2, 3], &[9; 12], 21, &[5; 21], &mut written)?;
+    let mut bytes = written.take();
+    let module = bytes.slice_mut(2..);
+    let opened = read_gcm(&key, &[1, 2, 3], &Place::loose(), 0, 21, true, module)?;
+    assert_eq!(rt; (opened.length, opened.consumed), (21, 53));
+    assert_eq!(rt; opened.nonce, [9; 12]);
+    assert_eq!(rt; &bytes[..2], [7, 8].as_slice());
+    assert_eq!(rt; &bytes[18..39], [5; 21].as_slice());
+    Ok(())
 }
