@@ -3,7 +3,7 @@ use Rattle.std.specs.Prelude.{ℕ, Bool, ◌||◌, ◌==◌, nat_le, List, lengt
 use Rattle.std.specs.Result.{result_ok}
 use Rattle.hex.specs.Hex.{decode_of}
 
--- hex text has an even number of digits of either case, and may be empty
+-- hex text: two digits a byte, in upper or lower case; the empty text spells no byte
 abbrev pub bytes_of_hex : List ℕ → Option (List ℕ)
 bytes_of_hex text = result_ok (decode_of text)
 

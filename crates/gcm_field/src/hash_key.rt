@@ -46,7 +46,7 @@ impl HashKey {
         self.mul_number(u128::from_be_bytes(x)).to_be_bytes()
     }
 
-    /// The product of the key with a block whose first byte is `16 * digit` and whose other bytes are 0.
+    /// The product of the key with the block that begins with the byte `16 * digit` and is zero from there on.
     pub fn row(&self, digit: usize) -> &[u8; 16]
         requires { digit < 16 }
         ensures { result.now ≡ prod ((16 * digit) ∷ replicate 15 0) self.now }

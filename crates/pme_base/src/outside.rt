@@ -85,8 +85,8 @@ pub trait Files {
         ensures given { given self.new ≡ given self.old }
         ensures cause { HasCause (faults self.old) (faults self.new) result };
 
-    /// Puts bytes of the file `name` from offset `at` on at the front of `into`, and answers how many. That is 0
-    /// exactly where `into` is empty, `at` is at or past the end, or the file isn't there.
+    /// Puts bytes of the file `name` from offset `at` on at the front of `into`, and answers how many: at least one,
+    /// unless there is no room in `into` or the file, if it is there at all, has no byte from `at` on.
     fn read_at(&mut self, name: &str, at: u64, into: &mut [u8]) -> Result<usize, Trouble>
         ensures within { IfOk result (λ count. count ≤ length into.new) }
         ensures told { IfOk result (λ count. IfSome (published self.old) (λ files. IsReadAt (bytes_of files name.now) at count into.new)) }
