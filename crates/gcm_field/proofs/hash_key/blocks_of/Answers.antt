@@ -17,7 +17,7 @@ loop-v-preserved c =
 
 pub returns : goal.returns
 returns c =
-    let row = c.args.row.now in
-    let listed : row ≡ map (λ k. get_or row k 0) (range_with_len 0 16) = fill_by_all (λ k. get_or row k 0) row 16 0 (omega arith) (λ k h. refl) in
-    fill_by_all (λ k. to_be_bytes w128 (get_or row k 0)) c.loop-v.spelled 16 [] c.loop-v.invariant.whole (λ k h. c.loop-v.invariant.written k (omega arith))
+    let products = c.args.row.now in
+    let listed : products ≡ map (λ k. get_or products k 0) (range_with_len 0 16) = fill_by_all (λ k. get_or products k 0) products 16 0 (omega arith) (λ k h. refl) in
+    fill_by_all (λ k. to_be_bytes w128 (get_or products k 0)) c.loop-v.spelled 16 [] c.loop-v.invariant.whole (λ k h. c.loop-v.invariant.written k (omega arith))
     ∙ sym (ap (map (to_be_bytes w128)) listed)
