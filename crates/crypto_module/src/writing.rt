@@ -1,6 +1,5 @@
 // Modules that are added to the end of a list of bytes. The plaintext is copied once, and sealed where it then lies.
-ghost use Rattle.std.specs.Prelude.{◌≡◌, ◌+◌, ◌≤◌, ◌<◌, ◌↔◌, ◌++◌, length, take, drop, OnOk, OnErr, IsErrOf};
-ghost use Rattle.std.specs.Int.{w32, to_le_bytes};
+ghost use Rattle.std.specs.Prelude.{◌≡◌, ◌≤◌, ◌<◌, ◌↔◌, ◌++◌, length, take, drop, OnOk, OnErr, IsErrOf};
 ghost use Rattle.gcm_seal.specs.Gcm.{gctr, tag_of};
 ghost use Rattle.crypto_module.specs.Modules as modules;
 
@@ -96,7 +95,7 @@ fn append_parts(
     }
 }
 
-/// The same where the plaintext is within its limit. Only the first call can be refused memory.
+/// The same where the plaintext is within its limit. Memory is refused at the first call or not at all.
 fn extend_by_parts(
     nonce: &[u8; 12],
     plain: &[u8],
