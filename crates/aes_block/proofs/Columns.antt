@@ -1,61 +1,78 @@
--- MixColumns by doubling the sums of neighbours.
-use Rattle.std.proofs.Common.{◌≡◌, ℕ, ◌+◌, ◌-◌, ◌%◌, ◌^◌, ◌<◌, Bool, true, false, cond, eqb, leb, List, [], ◌∷◌, ◌++◌, map, length, get_or, replicate, refl, sym, ap, ◌∙◌, arith, bit_xor, w8, Fits}
-use Rattle.std.specs.Int.Bits.{xor_assoc, xor_comm}
+-- A round over the other basis, byte by byte.
+use Rattle.std.proofs.Common.{◌≡◌, ℕ, ◌+◌, ◌<◌, true, eqb, ltb, List, [], ◌∷◌, map, length, get_or, refl, sym, ap, subst, ◌∙◌, arith, bit_xor, ltb-true}
+use Rattle.std.specs.Int.Bits.{xor_assoc, xor_comm, xor_zero_r}
+use Rattle.std.specs.List.{range_with_len}
+use Rattle.std.proofs.lemmas.Nat.{xor_of_8}
 use Rattle.std.proofs.lemmas.Simd.{Each1-get_or, pick_l_whole}
-use Rattle.std.specs.Simd.Lanes.{Each1, zip2, sel_l, top}
-use Rattle.aes_block.specs.Aes.{mix_column, mix_columns}
-use Rattle.aes_block.specs.Field.{field_mul, folded}
-use Rattle.aes_block.specs.HalfBytes.{double_byte}
-use Rattle.aes_block.specs.declared.rounds.TheConstants.{TURNED, TURNED_TWICE}
+use Rattle.std.specs.Simd.Lanes.{Each1, zip2, pick_l}
+use Rattle.aes_block.specs.Aes.{round, final_round}
+use Rattle.aes_block.specs.Basis.{basis, affine, affine_once, affine_twice, inner_key, IsByte, IsState}
+use Rattle.aes_block.specs.Field.{field_mul, folded, sbox}
+use Rattle.aes_block.specs.declared.rounds.TheConstants.{ROWS, ROWS_TURNED, ROWS_TURNED_TWICE, ROWS_TURNED_THRICE}
 use Rattle.pme_terms.specs.Polynomials.{product_below}
 use Rattle.aes_block.proofs.Bytes.{of_all_bytes, at_byte, same_byte}
-
--- ---- the double of each byte
-
-abbrev at_least : ℕ → ℕ → ℕ
-at_least a b = cond (leb a b) (2 ^ 8 - 1) 0
-
-one_doubled : (x : ℕ) → bit_xor ((x + x) % 2 ^ 8) (cond (top 7 (at_least 128 x)) 0x1b 0) ≡ double_byte x
-one_doubled x = go (leb 128 x)
-  where
-    go : (b : Bool) → bit_xor ((x + x) % 2 ^ 8) (cond (top 7 (cond b (2 ^ 8 - 1) 0)) 0x1b 0) ≡ bit_xor ((x + x) % 256) (cond b 0x1b 0)
-    go true = refl
-    go false = refl
-
-abbrev pub doubles : ℕ → List ℕ → List ℕ
-doubles n v = zip2 bit_xor (zip2 (λ a b. (a + b) % 2 ^ 8) v v) (sel_l (map (top 7) (zip2 at_least (replicate n 128) v)) (replicate n 0x1b) (replicate n 0))
-
-each_doubled : (v : List ℕ) → doubles (length v) v ≡ map double_byte v
-each_doubled [] = refl
-each_doubled (x ∷ xs) = λ i. one_doubled x i ∷ each_doubled xs i
-
-pub doubled_is : (v : List ℕ) (n : ℕ) → length v ≡ n → doubles n v ≡ map double_byte v
-doubled_is v n long = ap (λ n. doubles n v) (sym long) ∙ each_doubled v
+use Rattle.aes_block.proofs.Sboxes.{substituted, is_sbox}
 
 -- ---- the laws of the bytes, computed over all of them
 
-twice : of_all_bytes (λ x. eqb (double_byte x) (field_mul 2 x)) ≡ true
+abbrev adds : ℕ → ℕ → Type 0
+adds a b = basis (bit_xor a b) ≡ bit_xor (basis a) (basis b)
+
+all_add : of_all_bytes (λ a. of_all_bytes (λ b. eqb (basis (bit_xor a b)) (bit_xor (basis a) (basis b)))) ≡ true
+all_add = refl
+
+added : (a b : ℕ) → a < 256 → b < 256 → adds a b
+added a b la lb = same_byte (λ b. basis (bit_xor a b)) (λ b. bit_xor (basis a) (basis b)) b (at_byte (λ a. of_all_bytes (λ b. eqb (basis (bit_xor a b)) (bit_xor (basis a) (basis b)))) a all_add la) lb
+
+small : of_all_bytes (λ x. ltb (substituted x) 256) ≡ true
+small = refl
+
+small_twice : of_all_bytes (λ x. ltb (field_mul 2 (substituted x)) 256) ≡ true
+unfolding field_mul folded product_below
+small_twice = refl
+
+small_thrice : of_all_bytes (λ x. ltb (field_mul 3 (substituted x)) 256) ≡ true
+unfolding field_mul folded product_below
+small_thrice = refl
+
+plain : of_all_bytes (λ x. eqb (affine (basis x)) (bit_xor (substituted x) 0x63)) ≡ true
+plain = refl
+
+once : of_all_bytes (λ x. eqb (affine_once (basis x)) (bit_xor (basis (substituted x)) (basis 0x63))) ≡ true
+once = refl
+
+twice : of_all_bytes (λ x. eqb (affine_twice (basis x)) (bit_xor (basis (field_mul 2 (substituted x))) (basis 0xc6))) ≡ true
 unfolding field_mul folded product_below
 twice = refl
 
-thrice : of_all_bytes (λ x. eqb (bit_xor (double_byte x) x) (field_mul 3 x)) ≡ true
+thrice : of_all_bytes (λ x. eqb (bit_xor (affine_once (basis x)) (affine_twice (basis x))) (bit_xor (basis (field_mul 3 (substituted x))) (basis 0xa5))) ≡ true
 unfolding field_mul folded product_below
 thrice = refl
 
-abbrev adds : ℕ → Bool
-adds a = of_all_bytes (λ b. eqb (double_byte (bit_xor a b)) (bit_xor (double_byte a) (double_byte b)))
+-- what is known of the byte x of the state
+record Substituted (x : ℕ) : Type 0 where
+  pub small : sbox x < 256
+  pub small_twice : field_mul 2 (sbox x) < 256
+  pub small_thrice : field_mul 3 (sbox x) < 256
+  pub plain : affine (basis x) ≡ bit_xor (sbox x) 0x63
+  pub once : affine_once (basis x) ≡ bit_xor (basis (sbox x)) (basis 0x63)
+  pub twice : affine_twice (basis x) ≡ bit_xor (basis (field_mul 2 (sbox x))) (basis 0xc6)
+  pub thrice : bit_xor (affine_once (basis x)) (affine_twice (basis x)) ≡ bit_xor (basis (field_mul 3 (sbox x))) (basis 0xa5)
 
-all_add : of_all_bytes adds ≡ true
-all_add = refl
+substituted_of : (x : ℕ) → x < 256 → Substituted x
+substituted_of x lt =
+    let is : substituted x ≡ sbox x = same_byte substituted sbox x is_sbox lt in
+    record {
+      small = subst (λ s. s < 256) is (ltb-true _ _ (at_byte (λ x. ltb (substituted x) 256) x small lt));
+      small_twice = subst (λ s. field_mul 2 s < 256) is (ltb-true _ _ (at_byte (λ x. ltb (field_mul 2 (substituted x)) 256) x small_twice lt));
+      small_thrice = subst (λ s. field_mul 3 s < 256) is (ltb-true _ _ (at_byte (λ x. ltb (field_mul 3 (substituted x)) 256) x small_thrice lt));
+      plain = same_byte (λ x. affine (basis x)) (λ x. bit_xor (substituted x) 0x63) x plain lt ∙ ap (λ s. bit_xor s 0x63) is;
+      once = same_byte (λ x. affine_once (basis x)) (λ x. bit_xor (basis (substituted x)) (basis 0x63)) x once lt ∙ ap (λ s. bit_xor (basis s) (basis 0x63)) is;
+      twice = same_byte (λ x. affine_twice (basis x)) (λ x. bit_xor (basis (field_mul 2 (substituted x))) (basis 0xc6)) x twice lt ∙ ap (λ s. bit_xor (basis (field_mul 2 s)) (basis 0xc6)) is;
+      thrice = same_byte (λ x. bit_xor (affine_once (basis x)) (affine_twice (basis x))) (λ x. bit_xor (basis (field_mul 3 (substituted x))) (basis 0xa5)) x thrice lt ∙ ap (λ s. bit_xor (basis (field_mul 3 s)) (basis 0xa5)) is;
+    }
 
--- 2 (a + b) + b = 2 a + 3 b
-two_and_three : (a b : ℕ) → a < 256 → b < 256 → bit_xor (double_byte (bit_xor a b)) b ≡ bit_xor (field_mul 2 a) (field_mul 3 b)
-two_and_three a b la lb =
-    ap (λ n. bit_xor n b) (same_byte (λ b. double_byte (bit_xor a b)) (λ b. bit_xor (double_byte a) (double_byte b)) b (at_byte adds a all_add la) lb)
-    ∙ xor_assoc (double_byte a) (double_byte b) b
-    ∙ (λ i. bit_xor (same_byte double_byte (field_mul 2) a twice la i) (same_byte (λ x. bit_xor (double_byte x) x) (field_mul 3) b thrice lb i))
-
--- ---- a column
+-- ---- sums
 
 turned_sum : (p q r s : ℕ) → bit_xor (bit_xor p q) (bit_xor r s) ≡ bit_xor (bit_xor s p) (bit_xor q r)
 turned_sum p q r s =
@@ -64,30 +81,132 @@ turned_sum p q r s =
     ∙ sym (xor_assoc p s (bit_xor q r))
     ∙ ap (λ n. bit_xor n (bit_xor q r)) (xor_comm p s)
 
-abbrev mixed : ℕ → ℕ → ℕ → ℕ → ℕ
-mixed a b c d = bit_xor (bit_xor (double_byte (bit_xor a b)) b) (bit_xor c d)
+paired_sum : (p q r s : ℕ) → bit_xor (bit_xor p q) (bit_xor r s) ≡ bit_xor (bit_xor p r) (bit_xor q s)
+paired_sum p q r s =
+    xor_assoc p q (bit_xor r s)
+    ∙ ap (bit_xor p) (sym (xor_assoc q r s) ∙ ap (λ n. bit_xor n s) (xor_comm q r) ∙ xor_assoc r q s)
+    ∙ sym (xor_assoc p r (bit_xor q s))
 
-column_mixed_is : (a b c d : ℕ) → a < 256 → b < 256 → c < 256 → d < 256 → mixed a b c d ∷ mixed b c d a ∷ mixed c d a b ∷ mixed d a b c ∷ [] ≡ mix_column a b c d
-column_mixed_is a b c d la lb lc ld =
-    let first = ap (λ n. bit_xor n (bit_xor c d)) (two_and_three a b la lb) in
-    let second = ap (λ n. bit_xor n (bit_xor d a)) (two_and_three b c lb lc) ∙ turned_sum (field_mul 2 b) (field_mul 3 c) d a in
-    let third = ap (λ n. bit_xor n (bit_xor a b)) (two_and_three c d lc ld) ∙ xor_comm (bit_xor (field_mul 2 c) (field_mul 3 d)) (bit_xor a b) in
-    let fourth =
-    ap (λ n. bit_xor n (bit_xor b c)) (two_and_three d a ld la) ∙ turned_sum (field_mul 2 d) (field_mul 3 a) b c
-    ∙ xor_comm (bit_xor c (field_mul 2 d)) (bit_xor (field_mul 3 a) b) in
-    λ i. first i ∷ second i ∷ third i ∷ fourth i ∷ []
+-- the constants of the affine map are gone from a sum
+sum_is : (a b c d k : ℕ)
+    → bit_xor (bit_xor (bit_xor (bit_xor a (basis 0xc6)) (bit_xor b (basis 0xa5))) (bit_xor (bit_xor c (basis 0x63)) (bit_xor d (basis 0x63)))) (bit_xor k (basis 0x63))
+    ≡ bit_xor (bit_xor (bit_xor a b) (bit_xor c d)) k
+sum_is a b c d k =
+    let w = basis 0x63 in
+    let ab = paired_sum a (basis 0xc6) b (basis 0xa5) in
+    let cd = paired_sum c w d w in
+    let four = (λ i. bit_xor (ab i) (cd i)) ∙ paired_sum (bit_xor a b) (bit_xor (basis 0xc6) (basis 0xa5)) (bit_xor c d) (bit_xor w w) in
+    ap (λ n. bit_xor n (bit_xor k w)) four
+    ∙ paired_sum (bit_xor (bit_xor a b) (bit_xor c d)) w k w
+    ∙ xor_zero_r (bit_xor (bit_xor (bit_xor a b) (bit_xor c d)) k)
+
+-- ---- a byte of the next state
+
+abbrev Is : ℕ → ℕ → Type 0
+Is v x = (v ≡ basis x) × IsByte x
+
+abbrev mixed : ℕ → ℕ → ℕ → ℕ → ℕ → ℕ
+mixed a b c d k =
+    bit_xor (bit_xor (bit_xor (affine_twice (basis a)) (bit_xor (affine_once (basis b)) (affine_twice (basis b)))) (bit_xor (affine_once (basis c)) (affine_once (basis d)))) (inner_key k)
+
+abbrev mix : ℕ → ℕ → ℕ → ℕ → ℕ
+mix a b c d = bit_xor (bit_xor (field_mul 2 (sbox a)) (field_mul 3 (sbox b))) (bit_xor (sbox c) (sbox d))
+
+mixed_is : (a b c d k m : ℕ) → a < 256 → b < 256 → c < 256 → d < 256 → k < 256 → mix a b c d ≡ m → Is (mixed a b c d k) (bit_xor m k)
+mixed_is a b c d k m la lb lc ld lk same =
+    let first = substituted_of a la in
+    let second = substituted_of b lb in
+    let third = substituted_of c lc in
+    let fourth = substituted_of d ld in
+    let key = added k 0x63 lk (omega arith) in
+    let two = xor_of_8 (field_mul 2 (sbox a)) (field_mul 3 (sbox b)) first.small_twice second.small_thrice in
+    let others = xor_of_8 (sbox c) (sbox d) third.small fourth.small in
+    let four = xor_of_8 _ _ two others in
+    let sum = added (mix a b c d) k four lk
+    ∙ ap (λ n. bit_xor n (basis k)) (added _ _ two others ∙ (λ i. bit_xor (added _ _ first.small_twice second.small_thrice i) (added _ _ third.small fourth.small i))) in
+    let is = (λ i. bit_xor (bit_xor (bit_xor (first.twice i) (second.thrice i)) (bit_xor (third.once i) (fourth.once i))) (key i))
+    ∙ sum_is (basis (field_mul 2 (sbox a))) (basis (field_mul 3 (sbox b))) (basis (sbox c)) (basis (sbox d)) (basis k)
+    ∙ sym sum in
+    subst (λ m. Is (mixed a b c d k) (bit_xor m k)) same (is, xor_of_8 _ _ four lk)
+
+-- ---- a block
 
 abbrev at : List ℕ → List ℕ → List ℕ
 at s ks = map (λ k. get_or s k 0) ks
 
--- what `columns_mixed` makes of a block
-abbrev pub columns_of : List ℕ → List ℕ
-columns_of s = zip2 bit_xor (zip2 bit_xor (map double_byte (zip2 bit_xor s (at s TURNED))) (at s TURNED)) (at (zip2 bit_xor s (at s TURNED)) TURNED_TWICE)
+-- what `round` makes of a block
+abbrev pub round_over : List ℕ → List ℕ → List ℕ
+round_over v key =
+    zip2 bit_xor (zip2 bit_xor
+    (zip2 bit_xor (at (map affine_twice v) ROWS) (at (zip2 bit_xor (map affine_once v) (map affine_twice v)) ROWS_TURNED))
+    (zip2 bit_xor (at (map affine_once v) ROWS_TURNED_TWICE) (at (map affine_once v) ROWS_TURNED_THRICE))) key
 
-pub columns_mixed_is : (s : List ℕ) → length s ≡ 16 → Each1 (Fits w8) s → columns_of s ≡ mix_columns s
-columns_mixed_is s long fits =
-    let byte = λ (k : ℕ) (lt : k < 16). (Each1-get_or (Fits w8) s k 0 (omega arith) fits).fits in
-    let column = λ (k : ℕ) (lt : k + 3 < 16). column_mixed_is (get_or s k 0) (get_or s (k + 1) 0) (get_or s (k + 2) 0) (get_or s (k + 3) 0)
-    (byte k (omega arith)) (byte (k + 1) (omega arith)) (byte (k + 2) (omega arith)) (byte (k + 3) lt) in
-    ap columns_of (sym (pick_l_whole 0 s 16 long))
-    ∙ (λ i. column 0 (omega arith) i ++ (column 4 (omega arith) i ++ (column 8 (omega arith) i ++ column 12 (omega arith) i)))
+record Bytes (s : List ℕ) : Type 0 where
+  long : length s ≡ 16
+  bytes : Each1 IsByte s
+
+byte : (s : List ℕ) → Bytes s → (j : ℕ) → j < 16 → get_or s j 0 < 256
+byte s h j lt = Each1-get_or IsByte s j 0 (let e = h.long in omega arith) h.bytes
+
+-- the column of the bytes a, b, c and d, for the key's bytes from j on
+column : (s key : List ℕ) → Bytes s → Bytes key → (a b c d j : ℕ) → a < 16 → b < 16 → c < 16 → d < 16 → j + 3 < 16
+    → let x = λ (n : ℕ). get_or s n 0 in let k = λ (n : ℕ). get_or key n 0 in let S = λ (n : ℕ). sbox (x n) in
+    Is (mixed (x a) (x b) (x c) (x d) (k j)) (bit_xor (bit_xor (bit_xor (field_mul 2 (S a)) (field_mul 3 (S b))) (bit_xor (S c) (S d))) (k j))
+    × (Is (mixed (x b) (x c) (x d) (x a) (k (j + 1))) (bit_xor (bit_xor (bit_xor (S a) (field_mul 2 (S b))) (bit_xor (field_mul 3 (S c)) (S d))) (k (j + 1)))
+    × (Is (mixed (x c) (x d) (x a) (x b) (k (j + 2))) (bit_xor (bit_xor (bit_xor (S a) (S b)) (bit_xor (field_mul 2 (S c)) (field_mul 3 (S d)))) (k (j + 2)))
+    × Is (mixed (x d) (x a) (x b) (x c) (k (j + 3))) (bit_xor (bit_xor (bit_xor (field_mul 3 (S a)) (S b)) (bit_xor (S c) (field_mul 2 (S d)))) (k (j + 3)))))
+column s key hs hk a b c d j la lb lc ld lj =
+    let x = λ (n : ℕ). get_or s n 0 in
+    let k = λ (n : ℕ). get_or key n 0 in
+    let ba = byte s hs a la in
+    let bb = byte s hs b lb in
+    let bc = byte s hs c lc in
+    let bd = byte s hs d ld in
+    let S = λ (n : ℕ). sbox (x n) in
+    let first = mixed_is (x a) (x b) (x c) (x d) (k j) _ ba bb bc bd (byte key hk j (omega arith)) refl in
+    let second = mixed_is (x b) (x c) (x d) (x a) (k (j + 1)) _ bb bc bd ba (byte key hk (j + 1) (omega arith)) (turned_sum (field_mul 2 (S b)) (field_mul 3 (S c)) (S d) (S a)) in
+    let third = mixed_is (x c) (x d) (x a) (x b) (k (j + 2)) _ bc bd ba bb (byte key hk (j + 2) (omega arith)) (xor_comm (bit_xor (field_mul 2 (S c)) (field_mul 3 (S d))) (bit_xor (S a) (S b))) in
+    let fourth = mixed_is (x d) (x a) (x b) (x c) (k (j + 3)) _ bd ba bb bc (byte key hk (j + 3) (omega arith))
+    (turned_sum (field_mul 2 (S d)) (field_mul 3 (S a)) (S b) (S c) ∙ xor_comm (bit_xor (S c) (field_mul 2 (S d))) (bit_xor (field_mul 3 (S a)) (S b))) in
+    (first, (second, (third, fourth)))
+
+abbrev listed : List ℕ → List ℕ
+listed s = pick_l 0 s (range_with_len 0 16)
+
+pub round_over_is : (s k : List ℕ) → length s ≡ 16 → length k ≡ 16 → Each1 IsByte s → Each1 IsByte k → IsState (round_over (map basis s) (map inner_key k)) (round s k)
+round_over_is s k ls lk bs bk =
+    let hs : Bytes s = record { long = ls; bytes = bs } in
+    let hk : Bytes k = record { long = lk; bytes = bk } in
+    let p = column s k hs hk 0 5 10 15 0 (omega arith) (omega arith) (omega arith) (omega arith) (omega arith) in
+    let q = column s k hs hk 4 9 14 3 4 (omega arith) (omega arith) (omega arith) (omega arith) (omega arith) in
+    let r = column s k hs hk 8 13 2 7 8 (omega arith) (omega arith) (omega arith) (omega arith) (omega arith) in
+    let t = column s k hs hk 12 1 6 11 12 (omega arith) (omega arith) (omega arith) (omega arith) (omega arith) in
+    let both : IsState (round_over (map basis (listed s)) (map inner_key (listed k))) (round (listed s) (listed k)) = (
+      λ i. p.0.0 i ∷ p.1.0.0 i ∷ p.1.1.0.0 i ∷ p.1.1.1.0 i ∷ q.0.0 i ∷ q.1.0.0 i ∷ q.1.1.0.0 i ∷ q.1.1.1.0 i
+          ∷ r.0.0 i ∷ r.1.0.0 i ∷ r.1.1.0.0 i ∷ r.1.1.1.0 i ∷ t.0.0 i ∷ t.1.0.0 i ∷ t.1.1.0.0 i ∷ t.1.1.1.0 i ∷ [],
+      (p.0.1, (p.1.0.1, (p.1.1.0.1, (p.1.1.1.1, (q.0.1, (q.1.0.1, (q.1.1.0.1, (q.1.1.1.1, (r.0.1, (r.1.0.1, (r.1.1.0.1, (r.1.1.1.1, (t.0.1, (t.1.0.1, (t.1.1.0.1, (t.1.1.1.1, tt)))))))))))))))),
+    ) in
+    subst (λ s. IsState (round_over (map basis s) (map inner_key k)) (round s k)) (pick_l_whole 0 s 16 ls)
+    (subst (λ k. IsState (round_over (map basis (listed s)) (map inner_key k)) (round (listed s) k)) (pick_l_whole 0 k 16 lk) both)
+
+-- ---- the last round
+
+last : (s key : List ℕ) → Bytes s → (j n : ℕ) → j < 16
+    → bit_xor (affine (basis (get_or s j 0))) (bit_xor (get_or key n 0) 0x63) ≡ bit_xor (sbox (get_or s j 0)) (get_or key n 0)
+last s key hs j n lt =
+    let x = get_or s j 0 in
+    let k = get_or key n 0 in
+    ap (λ v. bit_xor v (bit_xor k 0x63)) (substituted_of x (byte s hs j lt)).plain ∙ paired_sum (sbox x) 0x63 k 0x63 ∙ xor_zero_r (bit_xor (sbox x) k)
+
+pub last_is : (s k : List ℕ) → length s ≡ 16 → length k ≡ 16 → Each1 IsByte s
+    → zip2 bit_xor (at (map affine (map basis s)) ROWS) (map (λ x. bit_xor x 0x63) k) ≡ final_round s k
+last_is s k ls lk bs =
+    let hs : Bytes s = record { long = ls; bytes = bs } in
+    let e = λ (j n : ℕ) (lt : j < 16). last s k hs j n lt in
+    let f = λ (s k : List ℕ). zip2 bit_xor (at (map affine (map basis s)) ROWS) (map (λ x. bit_xor x 0x63) k) in
+    let both : f (listed s) (listed k) ≡ final_round (listed s) (listed k) =
+    λ i. e 0 0 (omega arith) i ∷ e 5 1 (omega arith) i ∷ e 10 2 (omega arith) i ∷ e 15 3 (omega arith) i
+    ∷ e 4 4 (omega arith) i ∷ e 9 5 (omega arith) i ∷ e 14 6 (omega arith) i ∷ e 3 7 (omega arith) i
+    ∷ e 8 8 (omega arith) i ∷ e 13 9 (omega arith) i ∷ e 2 10 (omega arith) i ∷ e 7 11 (omega arith) i
+    ∷ e 12 12 (omega arith) i ∷ e 1 13 (omega arith) i ∷ e 6 14 (omega arith) i ∷ e 11 15 (omega arith) i ∷ [] in
+    (λ i. f (sym (pick_l_whole 0 s 16 ls) i) (sym (pick_l_whole 0 k 16 lk) i)) ∙ both ∙ (λ i. final_round (pick_l_whole 0 s 16 ls i) (pick_l_whole 0 k 16 lk i))

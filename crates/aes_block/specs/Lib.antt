@@ -4,4 +4,5 @@ pub mod Aes
 pub mod Vectors
 pub mod FourBlocks
 pub mod HalfBytes
+pub mod Basis
 pub mod KeyInside

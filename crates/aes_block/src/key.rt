@@ -5,7 +5,7 @@ ghost use Rattle.aes_block.specs.FourBlocks.{lane_block};
 
 use crate::expansion::expand;
 use crate::lanes::spread;
-use crate::rounds::encrypt;
+use crate::rounds::{encrypt, inner_keys};
 use std::marker::Model;
 use std::simd::prelude::*;
 use thiserror::Error;
@@ -21,6 +21,8 @@ pub struct AesKey {
     key_length: usize,
     // The key schedule, which begins with the key.
     round_keys: [u8; 240],
+    // The same over the basis in which the rounds before the last are.
+    inner_keys: [u8; 240],
 }
 
 impl Model for AesKey {
@@ -44,9 +46,12 @@ impl AesKey {
         if !matches!(bytes.len(), 16 | 24 | 32) {
             return Err(BadKeyLength);
         }
+        let round_keys = expand(bytes);
+        let inner_keys = inner_keys(&round_keys);
         Ok(AesKey {
             key_length: bytes.len(),
-            round_keys: expand(bytes),
+            round_keys,
+            inner_keys,
         })
     }
 
@@ -71,6 +76,11 @@ impl AesKey {
     pub fn encrypt_four(&self, blocks: u8x64) -> u8x64
         ensures { (b : ℕ) → b < 4 → lane_block result b ≡ aes self.now (lane_block blocks b) }
     {
-        encrypt(&self.round_keys, self.key_length / 4 + 5, blocks)
+        encrypt(
+            &self.round_keys,
+            &self.inner_keys,
+            self.key_length / 4 + 5,
+            blocks,
+        )
     }
 }
