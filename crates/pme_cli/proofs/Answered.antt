@@ -1,8 +1,7 @@
 -- The ends of `module`: the file wasn't opened, its text wasn't printed, or it was.
-use Rattle.std.proofs.Common.{◌≡◌, ℕ, Bool, true, false, List, Option, Some, None, IfSome, IsSomeAnd, Result, Ok, Err, IfErr, OnErr, refl, sym, ◌∙◌, ap, inl, inr, ◌⊎◌, subst, lit≤}
+use Rattle.std.proofs.Common.{◌≡◌, ℕ, Bool, true, false, List, Option, Some, None, IfSome, IsSomeAnd, Result, Ok, Err, refl, sym, ◌∙◌, ap, inl, inr, ◌⊎◌, subst, lit≤}
 use Rattle.std.proofs.lemmas.Bool.{false≢true}
 use Rattle.std.specs.FinMap.{get}
-use Rattle.pme_base.specs.declared.refusal.Cause.TheVariants.{OutOfMemory, ReadFault, WriteFault}
 use Rattle.pme_base.specs.declared.refusal.Refusal.{Refusal}
 use Rattle.pme_base.specs.Outside.{Published, followed_by, PutsFront}
 use Rattle.pme_base.specs.Refusals.{is_free}
@@ -11,11 +10,11 @@ use Rattle.pme_terms.specs.Counts.{Rose}
 use Rattle.crypto_module.specs.Modules.{IsGcm}
 use Rattle.crypto_module.proofs.Sealed.{opened_if_held}
 use Rattle.pme_cli.specs.declared.stop.Stop.{Stop}
-use Rattle.pme_cli.specs.Stops.{stop_of, is_free_outcome}
+use Rattle.pme_cli.specs.Stops.{stop_of}
 use Rattle.pme_cli.specs.Outcomes.{StopsReading, StopsWriting}
 use Rattle.pme_cli.specs.Printing.{hex_line, is_printing_cause}
 use Rattle.pme_cli.specs.SealedFile.{loose, plaintext_limit, opened_file}
-use Rattle.pme_cli.specs.ModuleCommand.{ModuleAnswered, ModuleCompletes, ModuleDone, PrintsFront, ended, is_module_outcome}
+use Rattle.pme_cli.specs.ModuleCommand.{ModuleAnswered, ModuleCompletes, PrintsFront, ended, is_module_outcome}
 use Rattle.pme_cli.proofs.Cases.{printing_is_free, free_module_cause}
 use Rattle.pme_cli.proofs.Prints.{puts_nothing}
 

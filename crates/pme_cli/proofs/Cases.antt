@@ -1,5 +1,5 @@
 -- Results by cases, and what the tests of causes say of each other.
-use Rattle.std.proofs.Common.{◌≡◌, ℕ, Bool, true, false, List, Option, Some, None, IfSome, Result, Ok, Err, OnErr, IfErr, refl, sym, ◌∙◌, ap}
+use Rattle.std.proofs.Common.{◌≡◌, true, Result, Ok, Err, OnErr, refl}
 use Rattle.std.proofs.lemmas.Bool.{false≢true}
 use Rattle.pme_base.specs.declared.refusal.Cause.{Cause}
 use Rattle.pme_base.specs.declared.refusal.Cause.TheVariants.{OutOfMemory, ReadFault, WriteFault, RandomFault, ServiceFault}

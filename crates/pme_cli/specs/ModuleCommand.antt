@@ -1,11 +1,10 @@
 -- `module`: the one sealed module that fills a file is opened, and its plaintext printed in hex.
-use Rattle.std.specs.Prelude.{◌≡◌, ℕ, Bool, true, false, List, Option, Some, None, IfSome, IsSomeAnd, Result, Ok, Err, OnOk, OnErr, IfErr}
+use Rattle.std.specs.Prelude.{◌≡◌, ℕ, Bool, true, false, List, Option, IfSome, IsSomeAnd, Result, Ok, Err, OnOk, OnErr, IfErr}
 use Rattle.std.specs.FinMap.{get}
 use Rattle.pme_base.specs.declared.refusal.Cause.{Cause}
 use Rattle.pme_base.specs.declared.refusal.Cause.TheVariants.{BadTag, WriteFault, OutOfMemory}
 use Rattle.pme_base.specs.declared.refusal.Refusal.{Refusal}
 use Rattle.pme_base.specs.Outside.{Published, followed_by, PutsFront}
-use Rattle.pme_terms.specs.Counts.{Rose}
 use Rattle.crypto_module.specs.Modules.{IsGcm}
 use Rattle.pme_cli.specs.declared.stop.Stop.{Stop}
 use Rattle.pme_cli.specs.Stops.{stop_of, is_free_outcome}

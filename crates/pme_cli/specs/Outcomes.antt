@@ -1,8 +1,7 @@
 -- How a run ends, and what it writes to the error text.
-use Rattle.std.specs.Prelude.{◌≡◌, ℕ, ◌≤◌, List, [], ◌∷◌, Option, Some, None, Result, Ok, Err, IfErr}
+use Rattle.std.specs.Prelude.{◌≡◌, ℕ, ◌≤◌, List, [], Option, Some, None, Result, Ok, Err, IfErr}
 use Rattle.pme_base.specs.declared.refusal.Cause.TheVariants as cause_of
 use Rattle.pme_base.specs.declared.refusal.Refusal.{Refusal}
-use Rattle.pme_base.specs.Outside.{followed_by}
 use Rattle.pme_terms.specs.Counts.{Rose}
 use Rattle.refusal_lines.specs.CauseRows.{status_number}
 use Rattle.refusal_lines.specs.RefusalText.{refusal_line}

@@ -1,5 +1,5 @@
 -- The one sealed module that fills a file: its length field is read first, then the rest behind it.
-use Rattle.std.specs.Prelude.{◌≡◌, ℕ, ◌-◌, ◌<◌, ◌^◌, Bool, true, false, List, length, take, Option, Some, None, Result, Ok, Err}
+use Rattle.std.specs.Prelude.{◌≡◌, ℕ, ◌-◌, ◌<◌, ◌^◌, Bool, true, List, length, take, Option, Some, None, Result, Ok, Err}
 use Rattle.pme_base.specs.declared.place.Place.{Place}
 use Rattle.pme_base.specs.declared.place.PlaceKind.TheVariants.{Loose}
 use Rattle.pme_base.specs.declared.refusal.Cause.{Cause}

@@ -1,5 +1,5 @@
 -- Why a command stopped: a refusal, and the file that it is about.
-use Rattle.std.specs.Prelude.{ℕ, Bool, true, false, List, [], Result, Ok, Err}
+use Rattle.std.specs.Prelude.{ℕ, Bool, false, List, [], Result, Ok, Err}
 use Rattle.pme_base.specs.declared.refusal.Cause.{Cause}
 use Rattle.pme_base.specs.declared.refusal.Refusal.{Refusal}
 use Rattle.pme_base.specs.Refusals.{plain_refusal, is_free}

@@ -1,4 +1,4 @@
-use Rattle.std.proofs.Common.{◌≡◌, true, Result, Ok, Err, rules}
+use Rattle.std.proofs.Common.{◌≡◌, true, Err, rules}
 use Rattle.pme_cli.specs.Stops.{stop_of}
 use Rattle.pme_cli.specs.Outcomes.{StopsReading, StopsWriting}
 use Rattle.pme_cli.specs.ModuleCommand.{is_module_outcome}
