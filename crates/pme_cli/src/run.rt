@@ -6,6 +6,8 @@ ghost use Rattle.refusal_lines.specs.RefusalText as text;
 ghost use Rattle.pme_base.specs.Outside.{PutsFront, followed_by};
 ghost use Rattle.pme_terms.specs.Counts.{Rose};
 ghost use Rattle.pme_cli.specs.Outcomes.{outcome_of, number_of, last_line, StopsReading, StopsWriting};
+ghost use Rattle.std.specs.FinMap.{get};
+ghost use Rattle.pme_cli.specs.SealedFile.{sealed_bytes};
 ghost use Rattle.pme_cli.specs.ModuleCommand.{ModuleAnswered, ModuleCompletes};
 ghost use Rattle.pme_cli.specs.Lines.{IfModule, UsageExactly, is_outcome, is_usage};
 
@@ -61,6 +63,7 @@ pub fn run<F: Files, N: Random, O: Sink, E: Sink>(
     // What stands afterwards.
     ensures published { F.published files.new ≡ F.published files.old }
     ensures to_come { N.to_come random.new ≡ N.to_come random.old }
+    ensures field { IfModule (line.command_of words.now) (λ key aad file. IfSome (F.published files.old) (λ told. IfErr (sealed_bytes (get told file)) (λ _. F.given files.new ≤ F.given files.old + 4))) }
     ensures given { F.given files.new ≤ F.given files.old + 16777248 }
     ensures unread { IsNone (line.command_of words.now) → F.given files.new ≡ F.given files.old }
 {
@@ -98,6 +101,7 @@ fn obey<F: Files, O: Sink>(
     ensures writes { StopsWriting (O.faults out.old) (O.faults out.new) result }
     ensures causes { is_outcome result ≡ true }
     ensures published { F.published files.new ≡ F.published files.old }
+    ensures field { IfModule (line.command_of words.now) (λ key aad file. IfSome (F.published files.old) (λ told. IfErr (sealed_bytes (get told file)) (λ _. F.given files.new ≤ F.given files.old + 4))) }
     ensures given { F.given files.new ≤ F.given files.old + 16777248 }
     ensures unread { IsNone (line.command_of words.now) → F.given files.new ≡ F.given files.old }
 {
@@ -121,6 +125,7 @@ fn dispatch<F: Files, O: Sink>(
     ensures writes { StopsWriting (O.faults out.old) (O.faults out.new) result }
     ensures causes { is_outcome result ≡ true }
     ensures published { F.published files.new ≡ F.published files.old }
+    ensures field { IfModule (Some command) (λ key aad file. IfSome (F.published files.old) (λ told. IfErr (sealed_bytes (get told file)) (λ _. F.given files.new ≤ F.given files.old + 4))) }
     ensures given { F.given files.new ≤ F.given files.old + 16777248 }
 {
     match command {

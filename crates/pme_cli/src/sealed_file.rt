@@ -115,6 +115,7 @@ fn read_whole<F: Files>(
 /// The bytes of the file `name` that one module fills. No more than its length field is read where that is bad.
 pub fn read_sealed<F: Files>(alloc: Global, files: &mut F, name: &str) -> Result<Vec<u8>, Refusal>
     ensures answer { IfSome (F.published files.old) (λ told. Answers (held_by result) (defined.sealed_bytes (get told name.now))) }
+    ensures field { IfSome (F.published files.old) (λ told. IfErr (defined.sealed_bytes (get told name.now)) (λ _. F.given files.new ≤ F.given files.old + 4)) }
     ensures len { IfOk result (λ buffer. vec_len buffer ≤ 16777248) }
     ensures reads { ReadsFail (F.faults files.old) (F.faults files.new) result }
     ensures causes { is_sealed_result result ≡ true }

@@ -5,7 +5,7 @@ ghost use Rattle.pme_cli.specs.Outcomes.{StopsReading, StopsWriting};
 ghost use Rattle.pme_terms.specs.Counts.{Rose};
 ghost use Rattle.crypto_module.specs.Modules.{IsGcm};
 ghost use Rattle.crypto_module.specs.Frames as frames;
-ghost use Rattle.pme_cli.specs.SealedFile.{plaintext_limit, opened_buffer, opened_file};
+ghost use Rattle.pme_cli.specs.SealedFile.{plaintext_limit, opened_buffer, opened_file, sealed_bytes};
 ghost use Rattle.pme_cli.specs.ModuleCommand.{ModuleAnswered, ModuleCompletes, is_module_outcome, is_opening_result};
 
 use crate::opened::Opened;
@@ -33,6 +33,7 @@ pub fn module<F: Files, O: Sink>(
     ensures complete { ModuleCompletes key associated_data name (F.published files.old) (Rose (F.faults files.old) (F.faults files.new) ⊎ Rose (O.faults out.old) (O.faults out.new)) result }
     ensures causes { is_module_outcome result ≡ true }
     ensures published { F.published files.new ≡ F.published files.old }
+    ensures field { IfSome (F.published files.old) (λ told. IfErr (sealed_bytes (get told name)) (λ _. F.given files.new ≤ F.given files.old + 4)) }
     ensures given { F.given files.new ≤ F.given files.old + 16777248 }
 {
     match open_file(alloc, &key, &associated_data, files, name.as_str()) {
@@ -57,6 +58,7 @@ fn open_file<F: Files>(
     ensures reads { ReadsFail (F.faults files.old) (F.faults files.new) result }
     ensures causes { is_opening_result result ≡ true }
     ensures published { F.published files.new ≡ F.published files.old }
+    ensures field { IfSome (F.published files.old) (λ told. IfErr (sealed_bytes (get told name.now)) (λ _. F.given files.new ≤ F.given files.old + 4)) }
     ensures given { F.given files.new ≤ F.given files.old + 16777248 }
 {
     match read_sealed(alloc, files, name) {
