@@ -3,10 +3,8 @@ ghost use Rattle.std.specs.Int.{w128, to_be_bytes};
 ghost use Rattle.gcm_field.specs.Field.{folded, field_mul, reversed, polynomial, prod};
 ghost use Rattle.gcm_field.specs.Table.{multiple, table_of, table_row};
 
+use crate::bitwise::times_x;
 use std::marker::Model;
-
-// The modulus without x^128, as the first bits of a block.
-const REDUCTION: u128 = 0xe1 << 120;
 
 /// A hash key: the block `H` of SP 800-38D, with the products that make others fast.
 #[derive(Drop)]
@@ -72,15 +70,6 @@ impl HashKey {
     }
 }
 
-// The product with x: a shift towards the last bit, which is replaced if it falls out.
-#[inline(always)]
-fn times_x(v: u128) -> u128
-    ensures { reversed result ≡ folded (reversed v * 2) }
-{
-    let carry = if v % 2 == 1 { REDUCTION } else { 0 };
-    (v / 2) ^ carry
-}
-
 // The sums of a, b, c and d, where a is for the highest bit of a half byte.
 #[inline(always)]
 fn sums(a: u128, b: u128, c: u128, d: u128) -> [u128; 16]
@@ -140,6 +129,7 @@ fn blocks_of(row: &[u128; 16]) -> [[u8; 16]; 16]
 #[cfg(test)]
 mod tests {
     use super::*;
+    use crate::bitwise::plain_product;
 
     // Test case 2 of the GCM specification: the hash key, the ciphertext's block and their product.
     const KEY: [u8; 16] = [
@@ -163,5 +153,16 @@ mod tests {
         assert_eq!(rt; key.mul(BLOCK), PRODUCT);
         // the first bit of a block is the coefficient of x^0, and 1 times the key is the key
         assert_eq!(rt; *key.row(8), KEY);
+    }
+
+    #[test]
+    fn table_and_plain_loop_agree(rt: HostRuntime) {
+        let key = HashKey::new(KEY);
+        let mut x = BLOCK;
+        for _ in 0..64 {
+            let product = key.mul(x);
+            assert_eq!(rt; plain_product(x, KEY), product);
+            x = product;
+        }
     }
 }

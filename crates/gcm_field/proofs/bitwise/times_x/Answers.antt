@@ -1,8 +1,8 @@
 use Rattle.std.proofs.Common.{◌≡◌, ◌*◌, ◌/◌, ◌%◌, ◌^◌, bit_xor, sym, ap, ◌∙◌, arith}
 use Rattle.gcm_field.specs.Field.{reversed}
 use Rattle.gcm_field.proofs.Reversal.{reversed_step}
-use Rattle.gcm_field.proofs.hash_key.times_x.Goals as goal
-use Rattle.gcm_field.proofs.hash_key.times_x.Goals.{then-v-eq1, else-v-eq1}
+use Rattle.gcm_field.proofs.bitwise.times_x.Goals as goal
+use Rattle.gcm_field.proofs.bitwise.times_x.Goals.{then-v-eq1, else-v-eq1}
 
 pub returns : goal.returns
 returns c =
