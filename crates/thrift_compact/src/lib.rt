@@ -2,6 +2,9 @@
 // walks the bytes by types without building one, the canonical spelling, a writer of it, and a tree's text.
 #![tactic(auto)]
 
+mod cursor;
+mod heads;
+mod ids;
 mod kind;
 mod refusal;
 mod tree;
