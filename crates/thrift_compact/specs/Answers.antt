@@ -1,11 +1,13 @@
 -- What a step of the code answers, beside the reading that defines it; and small lemmas about steps.
-use Rattle.std.specs.Prelude.{◌≡◌, ℕ, ℤ, List, [], ◌∷◌, ◌++◌, Option, Some, None, Result, Ok, Err, refl}
+use Rattle.std.specs.Prelude.{◌≡◌, ℕ, suc, ◌-◌, ℤ, List, [], ◌∷◌, ◌++◌, Option, Some, None, Result, Ok, Err, refl}
 use Rattle.std.proofs.Common.{ap}
 use Rattle.thrift_compact.specs.declared.cursor.Stop.{Stop}
 use Rattle.thrift_compact.specs.declared.cursor.Stop.TheVariants as stops
 use Rattle.thrift_compact.specs.declared.kind.TKind.{TKind}
+use Rattle.thrift_compact.specs.declared.refusal.ThriftRefusal.{ThriftRefusal}
+use Rattle.thrift_compact.specs.declared.refusal.ThriftRefusal.TheVariants.{Bad, OutOfMemory}
 use Rattle.pme_base.specs.Steps.{◌>>=◌}
-use Rattle.thrift_compact.specs.Reading.{Fault, byte_at}
+use Rattle.thrift_compact.specs.Reading.{Fault, byte_at, nest}
 
 -- a stop is the fault of the reading; want of memory may come at any step
 abbrev pub Fails : {Y : Type 0} → Stop → Result Y Fault → Type 0
@@ -22,6 +24,12 @@ abbrev pub Answer : {X Y : Type 0} → (X → Y) → Result X Stop → Result Y 
 Answer view (Ok x) defined = defined ≡ Ok (view x)
 Answer view (Err stop) defined = Fails stop defined
 
+-- room for one more, or the fault of every part that would need it
+abbrev pub Enters : Result ℕ Stop → ℕ → List ℕ → Type 0
+Enters (Ok inner) room bs = room ≡ suc inner
+Enters (Err stop) room bs =
+    Fails stop ((nest room).trees bs) × Fails stop ((nest room).pairs bs) × Fails stop ((nest room).fields bs)
+
 -- a reading with its value seen through a function
 abbrev pub mapped : {X Y : Type 0} → (X → Y) → Result (X × List ℕ) Fault → Result (Y × List ℕ) Fault
 mapped f read = read >>= λ x. Ok (f x.0, x.1)
@@ -31,6 +39,11 @@ abbrev pub Adds : Result (Option (ℤ × TKind)) Stop → List ℤ → List ℤ 
 Adds (Ok (Some head)) before after = after ≡ before ++ head.0 ∷ []
 Adds (Ok None) before after = after ≡ before
 Adds (Err stop) before after = Unit {0}
+
+-- a stop as a call tells it, where the whole input has so many bytes
+abbrev pub refusal_of : ℕ → Stop → ThriftRefusal
+refusal_of size (stops.Fault why left) = Bad (size - left) why
+refusal_of size stops.Memory = OutOfMemory
 
 -- a sequence of two steps, by what it answers
 pub bind_ok : {A B E : Type 0} (r : Result A E) (next : A → Result B E) (y : B) → (r >>= next) ≡ Ok y → (x : A) × (r ≡ Ok x) × (next x ≡ Ok y)

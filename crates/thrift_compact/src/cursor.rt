@@ -1,8 +1,9 @@
 // The bytes still to be read, and the parts that hold no others: bytes, varints, numbers, sizes, binaries, booleans.
 ghost use Rattle.std.specs.Prelude.{◌≡◌, ◌<◌, ◌≤◌, length, OnOk, IfOk};
-ghost use Rattle.thrift_compact.specs.Answers.{Gives};
+ghost use Rattle.thrift_compact.specs.Answers.{Gives, Enters, refusal_of};
 ghost use Rattle.thrift_compact.specs.Reading.{byte_at, bytes_at, varint_at, size_at, int8_at, int16_at, int32_at, int64_at, binary_at, truth_at, zigzag as zigzag_of, signed_byte as signed_byte_of};
 
+use crate::refusal::ThriftRefusal;
 use pme_base::{OutOfMemory, ThriftFault};
 use std::alloc::{AllocError, AllocFailed};
 use std::marker::Model;
@@ -12,6 +13,21 @@ use std::marker::Model;
 pub(crate) enum Stop {
     Fault(ThriftFault, usize),
     Memory,
+}
+
+impl Stop {
+    /// The stop as a call tells it, where the whole input has `size` bytes.
+    pub(crate) fn refusal(self, size: usize) -> ThriftRefusal
+        ensures { result ≡ refusal_of size self }
+    {
+        match self {
+            Stop::Fault(why, left) => ThriftRefusal::Bad {
+                at: size.saturating_sub(left) as u64,
+                why,
+            },
+            Stop::Memory => ThriftRefusal::OutOfMemory,
+        }
+    }
 }
 
 impl From<AllocError> for Stop {
@@ -70,6 +86,19 @@ impl<'a> Cursor<'a> {
         ensures { result ≡ length self.now }
     {
         self.rest.len()
+    }
+
+    /// Enters a struct, a list, a set or a map where `room` more may be opened: how many may be opened in it.
+    pub(crate) fn enter(&self, room: u32) -> Result<u32, Stop>
+        ensures { Enters result room self.now }
+    {
+        if room > 0 {
+            Ok(room - 1)
+        } else if self.rest.is_empty() {
+            Err(Stop::Fault(ThriftFault::End, 0))
+        } else {
+            Err(Stop::Fault(ThriftFault::Depth, self.rest.len()))
+        }
     }
 
     #[inline(always)]

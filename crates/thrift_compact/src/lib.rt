@@ -6,9 +6,11 @@ mod cursor;
 mod heads;
 mod ids;
 mod kind;
+mod read;
 mod refusal;
 mod tree;
 
 pub use kind::TKind;
+pub use read::read_tree;
 pub use refusal::ThriftRefusal;
 pub use tree::{TFields, TList, TMap, TVal};
