@@ -1,0 +1,9 @@
+pub mod Answers
+pub mod Grammar
+pub mod Kinds
+pub mod Laws
+pub mod Reading
+pub mod Spelling
+pub mod Tree
+pub mod View
+pub mod Whole

@@ -1,0 +1,16 @@
+// The compact protocol of Apache Thrift: trees of values and their bytes. A reader that builds a tree, one that
+// walks the bytes by types without building one, the canonical spelling, a writer of it, and a tree's text.
+#![tactic(auto)]
+
+mod cursor;
+mod heads;
+mod ids;
+mod kind;
+mod read;
+mod refusal;
+mod tree;
+
+pub use kind::TKind;
+pub use read::read_tree;
+pub use refusal::ThriftRefusal;
+pub use tree::{TFields, TList, TMap, TVal};
