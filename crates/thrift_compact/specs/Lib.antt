@@ -1,5 +1,6 @@
 pub mod Grammar
 pub mod Kinds
+pub mod Laws
 pub mod Reading
 pub mod Spelling
 pub mod Tree

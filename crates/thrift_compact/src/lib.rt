@@ -3,9 +3,11 @@
 #![tactic(auto)]
 
 mod kind;
+mod laws;
 mod refusal;
 mod tree;
 
 pub use kind::TKind;
+pub use laws::{one_spelling, what_is_spelled_is_read};
 pub use refusal::ThriftRefusal;
 pub use tree::{TFields, TList, TMap, TVal};
