@@ -3,3 +3,9 @@ pub mod Numbers
 pub mod Heads
 pub mod Again
 pub mod OneSpelling
+pub mod Took
+pub mod TookNumbers
+pub mod TookHeads
+pub mod Sound
+pub mod WholeStruct
+pub mod KindOfRead

@@ -26,3 +26,13 @@ abbrev pub OneSpelling : Type 0
 OneSpelling =
     (room : ℕ) (k : TKind) (t u : Tree) (front other rest others : List ℕ) → Spells room k t front → Spells room k u other
     → front ++ rest ≡ other ++ others → AreOne t u front other rest others
+
+-- the bytes are a spelling of the tree, and the rest
+abbrev pub BeginsWith : ℕ → TKind → Tree → List ℕ → List ℕ → Type 0
+BeginsWith room k t bytes rest = (front : List ℕ) × Spells room k t front × (bytes ≡ front ++ rest)
+
+-- what is read is spelled at the front of the bytes
+abbrev pub ReadIsSpelled : Type 0
+ReadIsSpelled =
+    (room : ℕ) (k : TKind) (t : Tree) (bytes rest : List ℕ) → AreBytes bytes → value room k bytes ≡ Ok (t, rest)
+    → BeginsWith room k t bytes rest
