@@ -1,2 +1,13 @@
-mod Built
-mod Varints
+pub mod Steps
+pub mod Varints
+pub mod Built
+pub mod Numbers
+pub mod Heads
+pub mod Again
+pub mod OneSpelling
+pub mod Took
+pub mod TookNumbers
+pub mod TookHeads
+pub mod Sound
+pub mod WholeStruct
+pub mod KindOfRead

@@ -3,6 +3,7 @@ pub mod Grammar
 pub mod Kinds
 pub mod Laws
 pub mod Reading
+pub mod Spelled
 pub mod Spelling
 pub mod Tree
 pub mod View

@@ -6,11 +6,13 @@ mod cursor;
 mod heads;
 mod ids;
 mod kind;
+mod laws;
 mod read;
 mod refusal;
 mod tree;
 
 pub use kind::TKind;
+pub use laws::{one_spelling, what_is_read_is_spelled, what_is_spelled_is_read};
 pub use read::read_tree;
 pub use refusal::ThriftRefusal;
 pub use tree::{TFields, TList, TMap, TVal};

@@ -1,0 +1,55 @@
+-- Steps of readings, and tests.
+use Rattle.std.proofs.Common.{◌≡◌, ◌⊎◌, inl, inr, ℕ, ◌<◌, ◌≤◌, Bool, true, false, nat_lt, ◌==◌, if◌then◌else◌, refl, arith, Result, Ok, Err}
+use Rattle.std.proofs.lemmas.Bool.Decides.{nat_tests}
+use Rattle.pme_base.specs.Steps.{◌>>=◌}
+
+-- the value of a step that went well, and what came of it
+pub bind_ok : {S T E : Type 0} (r : Result S E) (f : S → Result T E) (t : T) → (r >>= f) ≡ Ok t → (s : S) × (r ≡ Ok s) × (f s ≡ Ok t)
+bind_ok (Ok s) f t e = (s, refl, e)
+bind_ok (Err x) f t e = cc
+
+pub after_ok : {S T E : Type 0} (G : Type 0) (r : Result S E) (f : S → Result T E) (t : T) → (r >>= f) ≡ Ok t → ((s : S) → r ≡ Ok s → f s ≡ Ok t → G) → G
+after_ok G (Ok s) f t e more = more s refl e
+after_ok G (Err x) f t e more = cc
+
+-- a reading has one answer
+pub one_answer : {S E : Type 0} (r : Result S E) (x y : S) → r ≡ Ok x → r ≡ Ok y → x ≡ y
+one_answer r x y e f = cc
+
+pub when_true : {X : Type 0} (b : Bool) (x y : X) → b ≡ true → (if b then x else y) ≡ x
+when_true true x y e = refl
+when_true false x y e = cc
+
+pub when_false : {X : Type 0} (b : Bool) (x y : X) → b ≡ false → (if b then x else y) ≡ y
+when_false true x y e = cc
+when_false false x y e = refl
+
+pub below : (a b : ℕ) → a < b → nat_lt a b ≡ true
+below a b h = grind (arith, nat_tests)
+
+pub not_below : (a b : ℕ) → b ≤ a → nat_lt a b ≡ false
+not_below a b h = grind (arith, nat_tests)
+
+pub other : (a b : ℕ) → (a ≡ b → ⊥) → (a == b) ≡ false
+other a b h = grind (arith, nat_tests)
+
+-- what a test that went well tells, and a choice
+pub cond_ok : {T E : Type 0} (b : Bool) (x t : T) (y : E) → (if b then Ok x else Err y) ≡ Ok t → (b ≡ true) × (x ≡ t)
+cond_ok true x t y e = (refl, cc)
+cond_ok false x t y e = cc
+
+pub chosen : {X : Type 0} (b : Bool) (x y t : X) → (if b then x else y) ≡ t → ((b ≡ true) × (x ≡ t)) ⊎ ((b ≡ false) × (y ≡ t))
+chosen true x y t e = inl (refl, e)
+chosen false x y t e = inr (refl, e)
+
+pub below_if : (a b : ℕ) → nat_lt a b ≡ true → a < b
+below_if a b h = grind (arith, nat_tests)
+
+pub not_below_if : (a b : ℕ) → nat_lt a b ≡ false → b ≤ a
+not_below_if a b h = grind (arith, nat_tests)
+
+pub equal_if : (a b : ℕ) → (a == b) ≡ true → a ≡ b
+equal_if a b h = grind (arith, nat_tests)
+
+pub other_if : (a b : ℕ) → (a == b) ≡ false → a ≡ b → ⊥
+other_if a b h e = grind (arith, nat_tests)

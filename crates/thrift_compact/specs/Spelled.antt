@@ -1,0 +1,38 @@
+-- The laws between the grammar and the reading: a value is read exactly where the bytes begin with a spelling of it.
+use Rattle.std.specs.Prelude.{◌≡◌, ℕ, ◌<◌, List, ◌++◌, slice_index, Ok}
+use Rattle.thrift_compact.specs.declared.kind.TKind.{TKind}
+use Rattle.thrift_compact.specs.Tree.{Tree}
+use Rattle.thrift_compact.specs.Reading.{value}
+use Rattle.thrift_compact.specs.Grammar.{Spells}
+
+-- each item is a byte
+abbrev pub AreBytes : List ℕ → Type 0
+AreBytes bytes = (i : ℕ) → slice_index bytes i < 256
+
+-- what is spelled is read, whatever follows it
+abbrev pub SpelledIsRead : Type 0
+SpelledIsRead =
+    (room : ℕ) (k : TKind) (t : Tree) (front rest : List ℕ) → Spells room k t front
+    → value room k (front ++ rest) ≡ Ok (t, rest)
+
+-- two spellings at the front of the same bytes are one, of one tree
+pub record AreOne (t u : Tree) (front other rest others : List ℕ) : Type 0 where
+  pub trees : t ≡ u
+  pub fronts : front ≡ other
+  pub rests : rest ≡ others
+
+-- so no spelling is the beginning of another one
+abbrev pub OneSpelling : Type 0
+OneSpelling =
+    (room : ℕ) (k : TKind) (t u : Tree) (front other rest others : List ℕ) → Spells room k t front → Spells room k u other
+    → front ++ rest ≡ other ++ others → AreOne t u front other rest others
+
+-- the bytes are a spelling of the tree, and the rest
+abbrev pub BeginsWith : ℕ → TKind → Tree → List ℕ → List ℕ → Type 0
+BeginsWith room k t bytes rest = (front : List ℕ) × Spells room k t front × (bytes ≡ front ++ rest)
+
+-- what is read is spelled at the front of the bytes
+abbrev pub ReadIsSpelled : Type 0
+ReadIsSpelled =
+    (room : ℕ) (k : TKind) (t : Tree) (bytes rest : List ℕ) → AreBytes bytes → value room k bytes ≡ Ok (t, rest)
+    → BeginsWith room k t bytes rest
