@@ -4,8 +4,12 @@
 
 mod kind;
 mod refusal;
+mod show;
+#[cfg(test)]
+mod show_tests;
 mod tree;
 
 pub use kind::TKind;
 pub use refusal::ThriftRefusal;
+pub use show::show_tree;
 pub use tree::{TFields, TList, TMap, TVal};
