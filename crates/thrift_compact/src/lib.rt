@@ -3,6 +3,7 @@
 #![tactic(auto)]
 
 mod kind;
+mod put;
 mod refusal;
 mod show;
 #[cfg(test)]
