@@ -18,3 +18,9 @@ abbrev pub ReadsTree : List ℕ → Result (TVal × ℕ) ThriftRefusal → Type 
 ReadsTree bytes (Ok r) = told (length bytes) (whole_struct bytes) ≡ Ok (view r.0, r.1)
 ReadsTree bytes (Err (Bad at why)) = told (length bytes) (whole_struct bytes) ≡ Err (why, at)
 ReadsTree bytes (Err OutOfMemory) = Unit {0}
+
+-- the answer is this tree, which these bytes spell, unless memory was refused
+abbrev pub IsReadAs : Tree → List ℕ → Result (TVal × ℕ) ThriftRefusal → Type 0
+IsReadAs tree front (Ok r) = (view r.0 ≡ tree) × (r.1 ≡ length front)
+IsReadAs tree front (Err (Bad at why)) = ⊥
+IsReadAs tree front (Err OutOfMemory) = Unit {0}

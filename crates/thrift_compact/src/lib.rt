@@ -8,11 +8,16 @@ mod ids;
 mod kind;
 mod laws;
 mod read;
+mod put;
 mod refusal;
+mod show;
+#[cfg(test)]
+mod show_tests;
 mod tree;
 
 pub use kind::TKind;
 pub use laws::{one_spelling, what_is_read_is_spelled, what_is_spelled_is_read};
 pub use read::read_tree;
 pub use refusal::ThriftRefusal;
+pub use show::show_tree;
 pub use tree::{TFields, TList, TMap, TVal};

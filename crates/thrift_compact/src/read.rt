@@ -1,9 +1,12 @@
 // Reading a tree: one function for a value, one for a value in a list or a map, and one for each part that holds others.
-ghost use Rattle.std.specs.Prelude.{◌≡◌, ◌<◌, ◌≤◌, length, OnOk};
+ghost use Rattle.std.specs.Prelude.{◌≡◌, ℕ, ◌<◌, ◌≤◌, List, ◌++◌, length, take, OnOk, IfOk};
+ghost use Rattle.thrift_compact.specs.declared.kind.TKind.TheVariants as kinds;
+ghost use Rattle.thrift_compact.specs.Grammar.{Spells};
+ghost use Rattle.thrift_compact.specs.Tree.{Tree};
 ghost use Rattle.thrift_compact.specs.Answers.{Gives};
 ghost use Rattle.thrift_compact.specs.Reading.{element, nest, value as value_at};
 ghost use Rattle.thrift_compact.specs.View.{view, list_view, map_view, struct_view};
-ghost use Rattle.thrift_compact.specs.Whole.{ReadsTree};
+ghost use Rattle.thrift_compact.specs.Whole.{ReadsTree, IsReadAs};
 
 use crate::cursor::{Cursor, Stop};
 use crate::heads::{field_head, list_head, map_kinds};
@@ -20,7 +23,18 @@ const ROOM: u32 = 32;
 /// Reads the struct at the front of `bytes`: its tree, and how many bytes it takes. A fault is told with its offset
 /// from the front of `bytes`.
 pub fn read_tree(alloc: Global, bytes: &[u8]) -> Result<(TVal, usize), ThriftRefusal>
-    ensures { ReadsTree bytes.now result }
+    ensures exact { ReadsTree bytes.now result }
+    // What is answered is spelled at the front of the bytes, and what is spelled there is answered.
+    ensures found { IfOk result (λ read. Spells 32 kinds.Struct (view read.0) (take read.1 bytes.now)) }
+    ensures only { (tree : Tree) (front rest : List ℕ) → Spells 32 kinds.Struct tree front → bytes.now ≡ front ++ rest → IsReadAs tree front result }
+    ensures within { IfOk result (λ read. read.1 ≤ length bytes.now) }
+{
+    read_struct(alloc, bytes)
+}
+
+fn read_struct(alloc: Global, bytes: &[u8]) -> Result<(TVal, usize), ThriftRefusal>
+    ensures exact { ReadsTree bytes.now result }
+    ensures within { IfOk result (λ read. read.1 ≤ length bytes.now) }
 {
     let mut cursor = Cursor::new(bytes);
     match read_fields(alloc, &mut cursor, ROOM) {
