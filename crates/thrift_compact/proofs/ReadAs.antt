@@ -16,6 +16,9 @@ use Rattle.thrift_compact.proofs.WholeStruct.{whole_spelled, whole_read}
 parts_of : (a b : Tree) (n m : ℕ) → ◌≡◌ {A = Result (Tree × ℕ) Fault} (Ok (a, n)) (Ok (b, m)) → (a ≡ b) × (n ≡ m)
 parts_of a b n m e = let same : ◌≡◌ {A = Tree × ℕ} (a, n) (b, m) = cc in (ap (λ p. p.0) same, ap (λ p. p.1) same)
 
+apart : (f : Fault) (x : Tree × ℕ) → ◌≡◌ {A = Result (Tree × ℕ) Fault} (Err f) (Ok x) → ⊥
+apart f x e = cc
+
 found_from : (bytes : List ℕ) (read : Result (Fields × List ℕ) Fault) (t : Tree) (n : ℕ) → AreBytes bytes → whole_struct bytes ≡ read
     → told (length bytes) read ≡ Ok (t, n) → Spells 32 kind.Struct t (take n bytes)
 found_from bytes (Ok x) t n each is e =
@@ -39,5 +42,6 @@ read_as_spelled bytes (Ok r) reads t front rest spelled parts =
     (same.0 ∙ sym there.2, same.1 ∙ omega (arith, ap length parts, length-append front rest))
 read_as_spelled bytes (Err (Bad at why)) reads t front rest spelled parts =
     let there = whole_read t front rest bytes spelled parts in
-    let no_fault : Err (why, at) ≡ Ok (struct there.0, length bytes - length rest) = sym reads ∙ ap (told (length bytes)) there.1 in absurd cc
+    let no_fault : ◌≡◌ {A = Result (Tree × ℕ) Fault} (Err (why, at)) (Ok (struct there.0, length bytes - length rest)) = sym reads ∙ ap (told (length bytes)) there.1 in
+    absurd (apart (why, at) (struct there.0, length bytes - length rest) no_fault)
 read_as_spelled bytes (Err OutOfMemory) reads t front rest spelled parts = tt

@@ -2,6 +2,7 @@
 ghost use Rattle.std.specs.Prelude.{◌≡◌, ℕ, ◌<◌, ◌≤◌, List, ◌++◌, length, take, OnOk, IfOk};
 ghost use Rattle.thrift_compact.specs.declared.kind.TKind.TheVariants as kinds;
 ghost use Rattle.thrift_compact.specs.Grammar.{Spells};
+ghost use Rattle.thrift_compact.specs.Spelled.{AreBytes};
 ghost use Rattle.thrift_compact.specs.Tree.{Tree};
 ghost use Rattle.thrift_compact.specs.Answers.{Gives};
 ghost use Rattle.thrift_compact.specs.Reading.{element, nest, value as value_at};
@@ -34,6 +35,7 @@ pub fn read_tree(alloc: Global, bytes: &[u8]) -> Result<(TVal, usize), ThriftRef
 
 fn read_struct(alloc: Global, bytes: &[u8]) -> Result<(TVal, usize), ThriftRefusal>
     ensures exact { ReadsTree bytes.now result }
+    ensures bytes { AreBytes bytes.now }
     ensures within { IfOk result (λ read. read.1 ≤ length bytes.now) }
 {
     let mut cursor = Cursor::new(bytes);
