@@ -1,5 +1,5 @@
 -- The ends of `module`: its text is the plaintext of a module that the file is.
-use Rattle.std.proofs.Common.{◌≡◌, ℕ, List, Option, Some, None, IfSome, IsSomeAnd, Result, Ok, Err, OnOk, IsOkAnd, refl, sym, ◌∙◌, ap, lit≤}
+use Rattle.std.proofs.Common.{◌≡◌, ℕ, List, Option, Some, None, IfSome, IsSomeAnd, Result, Ok, Err, OnOk, IsOkAnd, refl, ◌∙◌, ap, lit≤}
 use Rattle.std.specs.Prelude.{IfOk, true}
 use Rattle.std.specs.FinMap.{get}
 use Rattle.pme_base.specs.declared.refusal.Refusal.{Refusal}
@@ -12,8 +12,8 @@ use Rattle.pme_cli.specs.Printing.{hex_line}
 use Rattle.pme_cli.specs.SealedFile.{loose, plaintext_limit, opened_file}
 use Rattle.pme_base.specs.declared.refusal.Cause.{Cause}
 use Rattle.pme_base.specs.declared.refusal.Cause.TheVariants.{WriteFault}
-use Rattle.pme_cli.specs.TextCommand.{TextAnswered, TextCompletes, caused_by}
-use Rattle.pme_cli.specs.ModuleCommand.{ModuleAnswered, ModuleCompletes, ModuleDone, IsSealedText, module_text, is_opening_cause, is_module_cause}
+use Rattle.pme_cli.specs.TextCommand.{TextCompletes, caused_by}
+use Rattle.pme_cli.specs.ModuleCommand.{ModuleCompletes, ModuleDone, IsSealedText, module_text, is_opening_cause, is_module_cause}
 
 -- a module whose text was printed is done
 pub module_done : (key aad name : List ℕ) (told : Option Published) (before after : Option (List ℕ)) (text : Result (List ℕ) Refusal) (outcome : Result Unit Stop)

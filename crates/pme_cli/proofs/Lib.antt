@@ -3,3 +3,4 @@ pub mod Prints
 pub mod Openings
 pub mod TextAnswers
 pub mod Answered
+pub mod Structs

@@ -1,6 +1,5 @@
 -- The ends of a command that prints one text: there was none, printing it failed, or it was printed.
 use Rattle.std.proofs.Common.{◌≡◌, ℕ, Bool, true, false, List, Option, Some, None, IfSome, Result, Ok, Err, refl, sym, ◌∙◌, ap, inl, inr, ◌⊎◌, subst}
-use Rattle.std.specs.Prelude.{IsOkAnd}
 use Rattle.std.proofs.lemmas.Bool.{false≢true}
 use Rattle.pme_base.specs.declared.refusal.Cause.{Cause}
 use Rattle.pme_base.specs.declared.refusal.Cause.TheVariants.{OutOfMemory, ReadFault, WriteFault}

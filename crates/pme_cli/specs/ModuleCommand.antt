@@ -1,5 +1,5 @@
 -- `module`: the one sealed module that fills a file is opened, and its plaintext printed in hex.
-use Rattle.std.specs.Prelude.{◌≡◌, ℕ, Bool, true, false, List, Option, IfSome, IsSomeAnd, Result, Ok, Err, OnOk, OnErr, IfErr}
+use Rattle.std.specs.Prelude.{◌≡◌, ℕ, Bool, true, List, Option, IfSome, IsSomeAnd, Result, Ok, OnOk, IfErr}
 use Rattle.std.specs.FinMap.{get}
 use Rattle.pme_base.specs.declared.refusal.Cause.{Cause}
 use Rattle.pme_base.specs.declared.refusal.Cause.TheVariants.{BadTag, WriteFault, OutOfMemory}

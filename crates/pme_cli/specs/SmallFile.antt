@@ -8,7 +8,7 @@ use Rattle.pme_base.specs.declared.refusal.Refusal.{Refusal}
 use Rattle.pme_base.specs.Places.{place_of}
 use Rattle.pme_base.specs.Refusals.{plain_refusal, pair_refusal}
 use Rattle.pme_base.specs.Steps.{◌>>=◌}
-use Rattle.pme_cli.specs.Reading.{size_of, is_reading_cause}
+use Rattle.pme_cli.specs.Reading.{is_reading_cause}
 
 -- a file as a whole
 abbrev pub whole_file : Place

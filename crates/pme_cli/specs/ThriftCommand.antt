@@ -11,10 +11,11 @@ use Rattle.pme_base.specs.Steps.{◌>>=◌}
 use Rattle.thrift_compact.specs.declared.kind.TKind.TheVariants as kind
 use Rattle.thrift_compact.specs.declared.refusal.ThriftRefusal.{ThriftRefusal}
 use Rattle.thrift_compact.specs.declared.refusal.ThriftRefusal.TheVariants.{Bad, OutOfMemory as no_memory}
-use Rattle.thrift_compact.specs.Tree.{Tree, struct, Fields}
+use Rattle.thrift_compact.specs.Tree.{Tree}
 use Rattle.thrift_compact.specs.Reading.{Fault, whole_struct}
 use Rattle.thrift_compact.specs.Grammar.{Spells}
 use Rattle.thrift_compact.specs.Text.{shown}
+use Rattle.thrift_compact.specs.Whole.{told}
 use Rattle.pme_cli.specs.declared.stop.Stop.{Stop}
 use Rattle.pme_cli.specs.SmallFile.{whole_file, small_limit, small_bytes, is_small_cause}
 use Rattle.pme_cli.specs.TextCommand.{TextAnswered}
@@ -23,17 +24,14 @@ use Rattle.pme_cli.specs.TextCommand.{TextAnswered}
 abbrev pub tree_text : Tree → ℕ → List ℕ
 tree_text tree rest = shown tree ++ (codes "\nrest " ++ (decimal rest ++ 10 ∷ []))
 
--- a fault, by its offset from the front of the bytes
-abbrev pub bad_thrift : List ℕ → Fault → Refusal
-bad_thrift bytes fault = refusal_at BadThrift whole_file (length bytes - fault.1) (Thrift fault.0)
-
-abbrev pub text_of_reading : List ℕ → Result (Fields × List ℕ) Fault → Result (List ℕ) Refusal
-text_of_reading bytes (Ok read) = Ok (tree_text (struct read.0) (length read.1))
-text_of_reading bytes (Err fault) = Err (bad_thrift bytes fault)
+-- the text of an answer about so many bytes: a tree and the count of its bytes, or a fault and its offset
+abbrev pub text_of_answer : ℕ → Result (Tree × ℕ) Fault → Result (List ℕ) Refusal
+text_of_answer size (Ok read) = Ok (tree_text read.0 (size - read.1))
+text_of_answer size (Err fault) = Err (refusal_at BadThrift whole_file fault.1 (Thrift fault.0))
 
 -- the text of the struct at the front of these bytes
 abbrev pub struct_text : List ℕ → Result (List ℕ) Refusal
-struct_text bytes = text_of_reading bytes (whole_struct bytes)
+struct_text bytes = text_of_answer (length bytes) (told (length bytes) (whole_struct bytes))
 
 -- what the command prints of a file
 abbrev pub thrift_text : Option (List ℕ) → Result (List ℕ) Refusal
@@ -61,12 +59,17 @@ pub record Holds (bytes : List ℕ) : Type 0 where
   pub spelled : Spells 32 kind.Struct tree front
   pub parts : bytes ≡ front ++ rest
 
+-- the text is that of the tree which a front of the bytes spells
+abbrev pub IsTextOf : List ℕ → List ℕ → Type 0
+IsTextOf bytes text = (h : Holds bytes) × (text ≡ tree_text h.tree (length h.rest))
+
+abbrev pub IsFileText : Option (List ℕ) → List ℕ → Type 0
+IsFileText file text = IsSomeAnd file (λ bytes. IsTextOf bytes text)
+
 -- a front of the file spells a tree, and its text was printed
-pub record ThriftDone (file before after : Option (List ℕ)) : Type 0 where
-  pub bytes : List ℕ
-  pub there : IsSomeAnd file (λ b. b ≡ bytes)
-  pub holds : Holds bytes
-  pub printed : after ≡ followed_by (tree_text holds.tree (length holds.rest)) before
+abbrev pub ThriftDone : Option (List ℕ) → Option (List ℕ) → Option (List ℕ) → Type 0
+ThriftDone file before after =
+    IsSomeAnd file (λ bytes. (h : Holds bytes) × (after ≡ followed_by (tree_text h.tree (length h.rest)) before))
 
 -- what the command says of the files that are told, and of what was printed before and after
 pub record ThriftAnswered (name : List ℕ) (told : Option Published) (before after : Option (List ℕ)) (outcome : Result Unit Stop) : Type 0 where

@@ -234,7 +234,9 @@ fn leaves_a_file_over_the_limit_unread(rt: HostRuntime) -> Result<(), Fail> {
     let alloc = rt.alloc();
     let words = words_of(alloc, "thrift --file large.bin")?;
     let mut given = given(alloc, "")?;
-    given.files.store("large.bin", vec![in alloc; 0u8; 16_777_217]?.as_slice())?;
+    given
+        .files
+        .store("large.bin", vec![in alloc; 0u8; 16_777_217]?.as_slice())?;
     let ran = ran(alloc, &words, given)?;
     assert_eq!(rt; ran.number, 50);
     assert_eq!(rt; ran.largest_read, 0);

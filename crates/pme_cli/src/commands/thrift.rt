@@ -6,7 +6,7 @@ ghost use Rattle.thrift_compact.specs.View.{view};
 ghost use Rattle.pme_cli.specs.Outcomes.{StopsReading, StopsWriting};
 ghost use Rattle.pme_cli.specs.SmallFile.{small_bytes};
 ghost use Rattle.pme_cli.specs.TextCommand.{AnswersText, caused_by, stopped_by};
-ghost use Rattle.pme_cli.specs.ThriftCommand.{ThriftAnswered, ThriftCompletes, is_text_cause, is_thrift_cause};
+ghost use Rattle.pme_cli.specs.ThriftCommand.{ThriftAnswered, ThriftCompletes, IsTextOf, IsFileText, is_text_cause, is_thrift_cause};
 ghost use Rattle.pme_cli.specs.ThriftCommand as defined;
 
 use crate::printing::print_text;
@@ -42,6 +42,7 @@ pub fn thrift<F: Files, O: Sink>(
 /// The text of the struct at the front of the file `name`.
 fn thrift_text<F: Files>(alloc: Global, files: &mut F, name: &str) -> Result<Bytes, Refusal>
     ensures answer { AnswersText result (λ files. defined.thrift_text (get files name.now)) (F.published files.old) }
+    ensures held { IfOk result (λ text. IfSome (F.published files.old) (λ files. IsFileText (get files name.now) text)) }
     ensures reads { ReadsFail (F.faults files.old) (F.faults files.new) result }
     ensures causes { caused_by is_text_cause result ≡ true }
     ensures published { F.published files.new ≡ F.published files.old }
@@ -57,6 +58,7 @@ fn thrift_text<F: Files>(alloc: Global, files: &mut F, name: &str) -> Result<Byt
 /// The text of the struct at the front of the bytes.
 fn struct_text(alloc: Global, bytes: &[u8]) -> Result<Bytes, Refusal>
     ensures answer { Answers result (defined.struct_text bytes.now) }
+    ensures held { IfOk result (λ text. IsTextOf bytes.now text) }
     ensures quiet { Quiet result }
     ensures causes { caused_by is_text_cause result ≡ true }
 {

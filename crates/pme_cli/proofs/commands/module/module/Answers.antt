@@ -1,8 +1,6 @@
-use Rattle.std.proofs.Common.{◌≡◌, true, refl, rules}
+use Rattle.std.proofs.Common.{refl, rules}
 use Rattle.pme_cli.specs.Outcomes.{StopsWriting}
-use Rattle.pme_cli.specs.TextCommand.{TextAnswered}
-use Rattle.pme_cli.specs.ModuleCommand.{is_module_cause, module_text}
-use Rattle.std.specs.FinMap.{get}
+use Rattle.pme_cli.specs.ModuleCommand.{is_module_cause}
 use Rattle.pme_cli.proofs.Answered.{module_done, module_completes, opening_ends}
 use Rattle.pme_cli.proofs.Cases.{free_module_cause}
 use Rattle.pme_cli.proofs.TextAnswers.{text_completes}
@@ -22,4 +20,4 @@ pub returns-clause-complete : goal.returns-clause-complete
 returns-clause-complete g c =
     let writes : StopsWriting (g.O.Sink.faults c.args.out.now) (g.O.Sink.faults c.print_text.new.out) c.print_text.result = search rules in
     module_completes _ _ _ _ _ _ (text_completes _ _ _ _ _ _ _ _ _ _ is_module_cause free_module_cause
-        (returns-clause-answered g c).answered (c.print_text.ensures.reads _ _ c.module_text-text.ensures.reads) writes (returns-clause-causes g c))
+    (returns-clause-answered g c).answered (c.print_text.ensures.reads _ _ c.module_text-text.ensures.reads) writes (returns-clause-causes g c))
