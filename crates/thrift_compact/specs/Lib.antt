@@ -1,4 +1,5 @@
 pub use Rattle.hex.specs.Hex
+pub mod Calls
 pub mod Grammar
 pub mod Kinds
 pub mod Reading
@@ -6,3 +7,4 @@ pub mod Spelling
 pub mod Text
 pub mod Tree
 pub mod View
+pub mod Writing

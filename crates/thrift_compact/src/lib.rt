@@ -9,8 +9,10 @@ mod show;
 #[cfg(test)]
 mod show_tests;
 mod tree;
+mod writer;
 
 pub use kind::TKind;
 pub use refusal::ThriftRefusal;
 pub use show::show_tree;
 pub use tree::{TFields, TList, TMap, TVal};
+pub use writer::Writer;
