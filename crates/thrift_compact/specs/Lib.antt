@@ -1,5 +1,7 @@
 pub mod Grammar
 pub mod Kinds
+pub mod Ordered
+pub mod Proper
 pub mod Reading
 pub mod Spelling
 pub mod Tree

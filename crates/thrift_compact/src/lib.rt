@@ -2,11 +2,14 @@
 // walks the bytes by types without building one, the canonical spelling, a writer of it, and a tree's text.
 #![tactic(auto)]
 
+mod canonical;
 mod kind;
+mod order;
 mod put;
 mod refusal;
 mod tree;
 
+pub use canonical::spell;
 pub use kind::TKind;
 pub use refusal::ThriftRefusal;
 pub use tree::{TFields, TList, TMap, TVal};
