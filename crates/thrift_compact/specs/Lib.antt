@@ -4,5 +4,6 @@ pub mod Ordered
 pub mod Proper
 pub mod Reading
 pub mod Spelling
+pub mod SpellingLaws
 pub mod Tree
 pub mod View

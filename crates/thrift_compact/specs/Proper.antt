@@ -1,7 +1,6 @@
 -- The trees that have a spelling: what the grammar asks of a tree's shape, and of its numbers and bytes.
-use Rattle.std.specs.Prelude.{◌≡◌, ℕ, suc, ◌<◌, ℤ, false, FitsSigned, List, [], ◌∷◌, length}
+use Rattle.std.specs.Prelude.{◌≡◌, ℕ, suc, ◌<◌, ℤ, false, FitsSigned, List, [], ◌∷◌, ◌++◌, length, slice_index}
 use Rattle.std.specs.Int.{w8, w16, w32, w64}
-use Rattle.std.specs.List.{All}
 use Rattle.thrift_compact.specs.declared.kind.TKind.{TKind}
 use Rattle.thrift_compact.specs.Reading.{is_among}
 use Rattle.thrift_compact.specs.Spelling.{element_kind}
@@ -29,10 +28,14 @@ abbrev pub ids_of : Fields → List ℤ
 ids_of no_fields = []
 ids_of (field id t fs) = id ∷ ids_of fs
 
+-- no id is among those before it, which begin with the ids `before`
+abbrev pub AreNew : List ℤ → List ℤ → Type 0
+AreNew before [] = Unit {0}
+AreNew before (id ∷ ids) = (is_among id before ≡ false) × AreNew (before ++ id ∷ []) ids
+
 -- no id stands twice
 abbrev pub AreDistinct : List ℤ → Type 0
-AreDistinct [] = Unit {0}
-AreDistinct (id ∷ ids) = (is_among id ids ≡ false) × AreDistinct ids
+AreDistinct ids = AreNew [] ids
 
 -- sizes and lengths lie below this limit
 abbrev pub IsSmall : ℕ → Type 0
@@ -65,9 +68,9 @@ abbrev mutual
   FieldsProper room no_fields = Unit {0}
   FieldsProper room (field id t fs) = IsProper room t × FieldsProper room fs
 
--- numbers below 256
+-- each item is a byte
 abbrev pub AreBytes : List ℕ → Type 0
-AreBytes bytes = All (λ b. b < 256) bytes
+AreBytes bytes = (i : ℕ) → slice_index bytes i < 256
 
 -- numbers lie in the range of their type, ids have 16 bits, and a double has 8 bytes
 abbrev mutual

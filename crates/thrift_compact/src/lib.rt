@@ -7,9 +7,11 @@ mod kind;
 mod order;
 mod put;
 mod refusal;
+mod spelling_laws;
 mod tree;
 
 pub use canonical::spell;
 pub use kind::TKind;
 pub use refusal::ThriftRefusal;
+pub use spelling_laws::canonical_is_spelled;
 pub use tree::{TFields, TList, TMap, TVal};
