@@ -2,8 +2,11 @@ pub use Rattle.hex.specs.Hex
 pub mod Calls
 pub mod Grammar
 pub mod Kinds
+pub mod Ordered
+pub mod Proper
 pub mod Reading
 pub mod Spelling
+pub mod SpellingLaws
 pub mod Text
 pub mod Tree
 pub mod View

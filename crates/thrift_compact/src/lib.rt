@@ -2,17 +2,22 @@
 // walks the bytes by types without building one, the canonical spelling, a writer of it, and a tree's text.
 #![tactic(auto)]
 
+mod canonical;
 mod kind;
+mod order;
 mod put;
 mod refusal;
 mod show;
 #[cfg(test)]
 mod show_tests;
+mod spelling_laws;
 mod tree;
 mod writer;
 
+pub use canonical::spell;
 pub use kind::TKind;
 pub use refusal::ThriftRefusal;
 pub use show::show_tree;
+pub use spelling_laws::canonical_is_spelled;
 pub use tree::{TFields, TList, TMap, TVal};
 pub use writer::Writer;
