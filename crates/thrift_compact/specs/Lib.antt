@@ -1,12 +1,17 @@
 pub mod Answers
 pub use Rattle.hex.specs.Hex
+pub mod Calls
 pub mod Grammar
 pub mod Kinds
 pub mod Laws
+pub mod Ordered
+pub mod Proper
 pub mod Reading
 pub mod Spelled
 pub mod Spelling
+pub mod SpellingLaws
 pub mod Text
 pub mod Tree
 pub mod View
 pub mod Whole
+pub mod Writing

@@ -8,16 +8,23 @@ mod ids;
 mod kind;
 mod laws;
 mod read;
+mod canonical;
+mod order;
 mod put;
 mod refusal;
 mod show;
 #[cfg(test)]
 mod show_tests;
+mod spelling_laws;
 mod tree;
+mod writer;
 
+pub use canonical::spell;
 pub use kind::TKind;
 pub use laws::{one_spelling, what_is_read_is_spelled, what_is_spelled_is_read};
 pub use read::read_tree;
 pub use refusal::ThriftRefusal;
 pub use show::show_tree;
+pub use spelling_laws::canonical_is_spelled;
 pub use tree::{TFields, TList, TMap, TVal};
+pub use writer::Writer;
