@@ -8,7 +8,7 @@ use Rattle.thrift_compact.specs.Reading.{bytes_at, element, elements, entries, p
 use Rattle.thrift_compact.specs.Grammar.{IsMapBody, Within, Spells, AllSpell, PairsSpell, SpellsFields}
 use Rattle.thrift_compact.proofs.Steps.{not_below, other}
 use Rattle.thrift_compact.proofs.Numbers.{number_again, size_again}
-use Rattle.thrift_compact.proofs.Heads.{truth_again, list_head_again, map_kinds_again, field_head_again, head_long}
+use Rattle.thrift_compact.proofs.HeadsAgain.{truth_again, list_head_again, map_kinds_again, field_head_again, head_long}
 
 bytes_again : (n : ℕ) (a r : List ℕ) → length a ≡ n → bytes_at n (a ++ r) ≡ Ok (a, r)
 bytes_again n a r e =

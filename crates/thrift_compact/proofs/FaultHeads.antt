@@ -6,7 +6,7 @@ use Rattle.thrift_compact.specs.declared.kind.TKind.{TKind}
 use Rattle.thrift_compact.specs.Kinds.{code, of_code}
 use Rattle.thrift_compact.specs.Reading.{Fault, byte_at, known, list_head, list_size, size_at, map_kinds, field_head, head_from, id_at, int16_at, fresh, last, small_id, is_among}
 use Rattle.thrift_compact.specs.Faults.{SizeFault, IsNoKind, ListHeadFault, no_list_head, no_element_kind, list_size_fault, MapKindsFault, FieldHeadFault, no_field_head, no_field_kind, id_fault, id_too_far, id_again}
-use Rattle.thrift_compact.specs.Laws.{AreBytes}
+use Rattle.thrift_compact.specs.Spelled.{AreBytes}
 use Rattle.thrift_compact.proofs.Steps.{after_err, one_refusal, cond_err, chosen, equal_if, other_if}
 use Rattle.thrift_compact.proofs.Took.{Took, IsByte, byte_took}
 use Rattle.thrift_compact.proofs.TookHeads.{low_is, IsIdFrom, id_took, names_field, with_id, with_kind}

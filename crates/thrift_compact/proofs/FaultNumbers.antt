@@ -5,7 +5,7 @@ use Rattle.pme_base.specs.declared.refusal.ThriftFault.TheVariants.{End, WrongTy
 use Rattle.thrift_compact.specs.Reading.{Fault, byte_at, bytes_at, varint_within, varint_at, zigzag, number_at, size_at, signed_byte, int8_at, binary_at, truth_at}
 use Rattle.thrift_compact.specs.Grammar.{IsBelow, IsSize}
 use Rattle.thrift_compact.specs.Faults.{NoByte, TooFew, Later, GoOn, VarintFault, NumberFault, SizeFault, BinaryFault, TruthFault}
-use Rattle.thrift_compact.specs.Laws.{AreBytes}
+use Rattle.thrift_compact.specs.Spelled.{AreBytes}
 use Rattle.thrift_compact.proofs.Steps.{after_err, one_refusal, cond_err, chosen, below_if, not_below_if}
 use Rattle.thrift_compact.proofs.Took.{Took}
 use Rattle.thrift_compact.proofs.TookNumbers.{IsShort, varint_took, size_took}

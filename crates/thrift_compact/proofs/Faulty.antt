@@ -7,14 +7,14 @@ use Rattle.thrift_compact.specs.declared.kind.TKind.TheVariants as kind
 use Rattle.thrift_compact.specs.Tree.{Tree, truth, int8, int16, int32, int64, double, binary, list, set, map, struct, no_trees, tree, no_pairs, pair, Fields, no_fields, field}
 use Rattle.thrift_compact.specs.Reading.{Fault, Read, bytes_at, int8_at, int16_at, int32_at, int64_at, binary_at, truth_at, list_head, size_at, map_kinds, field_head, element, elements, entries, trees_at, pairs_from, pairs_at, after_head, fields, fields_at, too_deep, as_tree, nest, value}
 use Rattle.thrift_compact.specs.Grammar.{IsSize, IsListHead, IsFieldHead, Spells, AllSpell, PairsSpell}
-use Rattle.thrift_compact.specs.Faults.{Later, ElementFault, ItemsFault, ListFault, PairFault, PairsFault, MapBodyFault, MapFault, FieldsFault, DepthFault, TruthFault, no_field_head, Faults}
-use Rattle.thrift_compact.specs.Laws.{AreBytes}
+use Rattle.thrift_compact.specs.Faults.{IsElement, Later, ElementFault, ItemsFault, ListFault, PairFault, PairsFault, MapBodyFault, MapFault, FieldsFault, DepthFault, TruthFault, no_field_head, Faults}
+use Rattle.thrift_compact.specs.Spelled.{AreBytes}
 use Rattle.thrift_compact.proofs.Steps.{after_err, one_refusal}
 use Rattle.thrift_compact.proofs.Took.{Took}
 use Rattle.thrift_compact.proofs.TookNumbers.{size_took}
-use Rattle.thrift_compact.proofs.Heads.{head_long}
+use Rattle.thrift_compact.proofs.HeadsAgain.{head_long}
 use Rattle.thrift_compact.proofs.TookHeads.{list_head_took, KindsOfMap, map_kinds_took, IsHead, field_head_took}
-use Rattle.thrift_compact.proofs.Sound.{sound, IsElement, element_took}
+use Rattle.thrift_compact.proofs.Sound.{sound, element_took}
 use Rattle.thrift_compact.proofs.FaultNumbers.{after_part, number_err, size_err, bytes_err, int8_err, binary_err, truth_err}
 use Rattle.thrift_compact.proofs.FaultHeads.{list_head_err, map_kinds_err, field_head_err}
 

@@ -4,7 +4,7 @@ use Rattle.thrift_compact.specs.declared.kind.TKind.{TKind}
 use Rattle.thrift_compact.specs.Tree.{Tree}
 use Rattle.thrift_compact.specs.Reading.{Fault, value}
 use Rattle.thrift_compact.specs.Faults.{Faults}
-use Rattle.thrift_compact.specs.Laws.{AreBytes, BeginsWith}
+use Rattle.thrift_compact.specs.Spelled.{AreBytes, BeginsWith}
 use Rattle.thrift_compact.proofs.Steps.{one_refusal}
 use Rattle.thrift_compact.proofs.Again.{value_again}
 use Rattle.thrift_compact.proofs.Sound.{sound}

@@ -5,7 +5,7 @@ use Rattle.thrift_compact.specs.declared.kind.TKind.{TKind}
 use Rattle.thrift_compact.specs.Tree.{Tree}
 use Rattle.thrift_compact.specs.Reading.{value}
 use Rattle.thrift_compact.specs.Grammar.{Spells}
-use Rattle.thrift_compact.specs.Laws.{AreOne}
+use Rattle.thrift_compact.specs.Spelled.{AreOne}
 use Rattle.thrift_compact.proofs.Again.{value_again}
 use Rattle.thrift_compact.proofs.Steps.{one_answer}
 

@@ -7,11 +7,11 @@ use Rattle.thrift_compact.specs.declared.kind.TKind.TheVariants as kind
 use Rattle.thrift_compact.specs.Kinds.{code}
 use Rattle.thrift_compact.specs.Tree.{Fields, no_fields, field}
 use Rattle.thrift_compact.specs.Reading.{Fault}
-use Rattle.thrift_compact.specs.Grammar.{IsSize, IsListHead, IsFieldHead, Within, Spells, AllSpell, PairsSpell}
-use Rattle.thrift_compact.specs.Faults.{NoByte, TooFew, WrongByte, Later, VarintFault, NumberFault, SizeFault, BinaryFault, TruthFault, IsNoKind, ElementFault, ListHeadFault, no_list_head, no_element_kind, list_size_fault, ItemsFault, ListFault, MapKindsFault, PairFault, PairsFault, MapBodyFault, MapFault, TooFar, FieldHeadFault, no_field_head, no_field_kind, id_fault, id_too_far, id_again, FieldsFault, DepthFault, Faults}
+use Rattle.thrift_compact.specs.Grammar.{IsSize, IsListHead, IsFieldHead, Spells, AllSpell, PairsSpell}
+use Rattle.thrift_compact.specs.Faults.{IsElement, Faultiness, NoByte, TooFew, WrongByte, Later, VarintFault, NumberFault, SizeFault, BinaryFault, TruthFault, IsNoKind, ElementFault, ListHeadFault, no_list_head, no_element_kind, list_size_fault, ItemsFault, ListFault, MapKindsFault, PairFault, PairsFault, MapBodyFault, MapFault, TooFar, FieldHeadFault, no_field_head, no_field_kind, id_fault, id_too_far, id_again, FieldsFault, DepthFault, Faults}
 
 -- every fault of this sort has its place within the bytes
-abbrev Inside : (List ℕ → Fault → Type 0) → Type 0
+abbrev Inside : Faultiness → Type 0
 Inside Faulty = (bs : List ℕ) (f : Fault) → Faulty bs f → f.1 ≤ length bs
 
 at : (why : ThriftFault) (left : ℕ) (f : Fault) → f ≡ (why, left) → f.1 ≡ left
@@ -29,7 +29,7 @@ no_byte bs f (none, is) = at_end bs f is
 wrong_byte : (Wrong : ℕ → Type 0) (why : ThriftFault) → Inside (WrongByte Wrong why)
 wrong_byte Wrong why bs f (b, rest, wrong, parts, is) = here why bs f is
 
-later : (Part : List ℕ → Type 0) (Faulty : List ℕ → Fault → Type 0) → Inside Faulty → Inside (Later Part Faulty)
+later : (Part : List ℕ → Type 0) (Faulty : Faultiness) → Inside Faulty → Inside (Later Part Faulty)
 later Part Faulty inside bs f (front, rest, part, parts, fault) = omega (arith, inside rest f fault, ap length parts, length-append front rest)
 
 varint : Inside VarintFault
@@ -51,7 +51,7 @@ truth : Inside TruthFault
 truth bs f (inl none) = no_byte bs f none
 truth bs f (inr wrong) = wrong_byte (λ b. 2 < b) WrongType bs f wrong
 
-element : (Faulty : TKind → List ℕ → Fault → Type 0) → ((k : TKind) → Inside (Faulty k)) → (k : TKind) → Inside (ElementFault Faulty k)
+element : (Faulty : TKind → Faultiness) → ((k : TKind) → Inside (Faulty k)) → (k : TKind) → Inside (ElementFault Faulty k)
 element Faulty inside kind.True bs f fault = truth bs f fault
 element Faulty inside kind.False bs f fault = truth bs f fault
 element Faulty inside k bs f fault = inside k bs f fault
@@ -61,27 +61,27 @@ list_head bs f (no_list_head none) = no_byte bs f none
 list_head bs f (no_element_kind wrong) = wrong_byte (λ b. IsNoKind (b % 16)) WrongType bs f wrong
 list_head bs f (list_size_fault k more) = later (λ front. front ≡ (240 + code k) ∷ []) SizeFault (number 2147483648) bs f more
 
-list : (room : ℕ) (Faulty : TKind → List ℕ → Fault → Type 0) → ((k : TKind) → Inside (Faulty k)) → Inside (ListFault room Faulty)
+list : (room : ℕ) (Faulty : TKind → Faultiness) → ((k : TKind) → Inside (Faulty k)) → Inside (ListFault room Faulty)
 list room Faulty inside bs f (inl head) = list_head bs f head
 list room Faulty inside bs f (inr (k, n, more)) =
     later (IsListHead k n) (ItemsFault room Faulty k n) (λ bs f items. later (AllSpell room k items.0) (ElementFault Faulty k) (element Faulty inside k) bs f items.2) bs f more
 
-pair : (room : ℕ) (Faulty : TKind → List ℕ → Fault → Type 0) → ((k : TKind) → Inside (Faulty k)) → (key_kind value_kind : TKind) → Inside (PairFault room Faulty key_kind value_kind)
+pair : (room : ℕ) (Faulty : TKind → Faultiness) → ((k : TKind) → Inside (Faulty k)) → (key_kind value_kind : TKind) → Inside (PairFault room Faulty key_kind value_kind)
 pair room Faulty inside key_kind value_kind bs f (inl key) = element Faulty inside key_kind bs f key
 pair room Faulty inside key_kind value_kind bs f (inr (key, more)) =
-    later (λ front. Within key_kind key front (Spells room key_kind key front)) (ElementFault Faulty value_kind) (element Faulty inside value_kind) bs f more
+    later (IsElement room key_kind key) (ElementFault Faulty value_kind) (element Faulty inside value_kind) bs f more
 
 map_kinds : Inside MapKindsFault
 map_kinds bs f (inl none) = no_byte bs f none
 map_kinds bs f (inr wrong) = wrong_byte (λ b. IsNoKind (b / 16) ⊎ IsNoKind (b % 16)) WrongType bs f wrong
 
-map_body : (room : ℕ) (Faulty : TKind → List ℕ → Fault → Type 0) → ((k : TKind) → Inside (Faulty k)) → (n : ℕ) → Inside (MapBodyFault room Faulty n)
+map_body : (room : ℕ) (Faulty : TKind → Faultiness) → ((k : TKind) → Inside (Faulty k)) → (n : ℕ) → Inside (MapBodyFault room Faulty n)
 map_body room Faulty inside n bs f (inl kinds) = map_kinds bs f kinds
 map_body room Faulty inside n bs f (inr (key, one, more)) =
     later (λ front. front ≡ (16 * code key + code one) ∷ []) (PairsFault room Faulty n key one)
     (λ bs f pairs. later (PairsSpell room key one pairs.0) (PairFault room Faulty key one) (pair room Faulty inside key one) bs f pairs.2) bs f more
 
-map : (room : ℕ) (Faulty : TKind → List ℕ → Fault → Type 0) → ((k : TKind) → Inside (Faulty k)) → Inside (MapFault room Faulty)
+map : (room : ℕ) (Faulty : TKind → Faultiness) → ((k : TKind) → Inside (Faulty k)) → Inside (MapFault room Faulty)
 map room Faulty inside bs f (inl size) = number 2147483648 bs f size
 map room Faulty inside bs f (inr (n, some, more)) = later (IsSize n) (MapBodyFault room Faulty n) (map_body room Faulty inside n) bs f more
 
@@ -92,7 +92,7 @@ field_head ids bs f (id_fault k more) = later (λ front. front ≡ code k ∷ []
 field_head ids bs f (id_too_far wrong) = wrong_byte (TooFar ids) Range bs f wrong
 field_head ids bs f (id_again id k front rest names among parts is) = here Repeated bs f is
 
-fields : (fs : Fields) (room : ℕ) (Faulty : TKind → List ℕ → Fault → Type 0) → ((k : TKind) → Inside (Faulty k)) → (ids : List ℤ) → Inside (FieldsFault room Faulty ids fs)
+fields : (fs : Fields) (room : ℕ) (Faulty : TKind → Faultiness) → ((k : TKind) → Inside (Faulty k)) → (ids : List ℤ) → Inside (FieldsFault room Faulty ids fs)
 fields no_fields room Faulty inside ids bs f (inl head) = field_head ids bs f head
 fields no_fields room Faulty inside ids bs f (inr (id, k, more)) = later (IsFieldHead ids id k) (Faulty k) (inside k) bs f more
 fields (field id t fs) room Faulty inside ids bs f (k, more) =

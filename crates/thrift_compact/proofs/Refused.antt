@@ -11,7 +11,7 @@ use Rattle.thrift_compact.specs.Grammar.{NamesField, Within, Spells, AllSpell, P
 use Rattle.thrift_compact.specs.Faults.{NoByte, TooFew, GoOn, VarintFault, NumberFault, SizeFault, BinaryFault, TruthFault, IsNoKind, ElementFault, ListHeadFault, no_list_head, no_element_kind, list_size_fault, ListFault, MapKindsFault, PairFault, MapBodyFault, MapFault, FieldHeadFault, no_field_head, no_field_kind, id_fault, id_too_far, id_again, FieldsFault, DepthFault, Faults}
 use Rattle.thrift_compact.proofs.Steps.{below, not_below, other, one_refusal}
 use Rattle.thrift_compact.proofs.Numbers.{at_front, number_again, size_again}
-use Rattle.thrift_compact.proofs.Heads.{code_range, low_kind, own_kind, high_half, list_head_again, map_kinds_again, field_head_again, head_long}
+use Rattle.thrift_compact.proofs.HeadsAgain.{code_range, low_kind, own_kind, high_half, list_head_again, map_kinds_again, field_head_again, head_long}
 use Rattle.thrift_compact.proofs.Again.{element_again, value_again}
 
 byte_fails : (bs : List ℕ) (f : Fault) → NoByte bs f → byte_at bs ≡ Err f

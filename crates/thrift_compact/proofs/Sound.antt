@@ -5,8 +5,9 @@ use Rattle.thrift_compact.specs.declared.kind.TKind.{TKind}
 use Rattle.thrift_compact.specs.declared.kind.TKind.TheVariants as kind
 use Rattle.thrift_compact.specs.Tree.{Tree, truth, int8, int16, int32, int64, double, binary, list, set, map, struct, Trees, no_trees, tree, Pairs, no_pairs, pair, Fields, no_fields, field, count, pair_count}
 use Rattle.thrift_compact.specs.Reading.{Read, bytes_at, int8_at, int16_at, int32_at, int64_at, binary_at, truth_at, list_head, size_at, map_kinds, field_head, element, elements, entries, trees_at, pairs_from, pairs_at, after_head, fields, too_deep, as_tree, nest, value}
-use Rattle.thrift_compact.specs.Grammar.{IsSize, IsNumber, IsTruthByte, IsListHead, IsHeadedList, IsMapBody, IsMap, IsFieldHead, Within, Spells, AllSpell, PairsSpell, SpellsFields}
-use Rattle.thrift_compact.specs.Laws.{AreBytes}
+use Rattle.thrift_compact.specs.Grammar.{IsSize, IsNumber, IsTruthByte, IsListHead, IsHeadedList, IsMapBody, IsMap, IsFieldHead, Spells, AllSpell, PairsSpell, SpellsFields}
+use Rattle.thrift_compact.specs.Faults.{IsElement}
+use Rattle.thrift_compact.specs.Spelled.{AreBytes}
 use Rattle.thrift_compact.proofs.Steps.{bind_ok, after_ok}
 use Rattle.thrift_compact.proofs.Took.{Took, took_ok, took_nothing, took_as, took_then, took_thrice}
 use Rattle.thrift_compact.proofs.TookNumbers.{AreSo, bytes_took, IsSignedByte, int8_took, number_took, size_took, IsBinary, binary_took, truth_took}
@@ -15,9 +16,6 @@ use Rattle.thrift_compact.proofs.TookHeads.{list_head_took, KindsOfMap, map_kind
 -- every value that is read in this room is spelled
 abbrev pub Sound : ℕ → Type 0
 Sound room = (k : TKind) (bs : List ℕ) (x : Tree × List ℕ) → AreBytes bs → value room k bs ≡ Ok x → Took (Spells room k x.0) bs x.1
-
-abbrev pub IsElement : ℕ → TKind → Tree → List ℕ → Type 0
-IsElement room k t front = Within k t front (Spells room k t front)
 
 truth_element : (room : ℕ) (k : TKind) (bs : List ℕ) (x : Tree × List ℕ) → ((b : Bool) (front : List ℕ) → IsTruthByte b front → IsElement room k (truth b) front)
     → AreBytes bs → as_tree truth truth_at bs ≡ Ok x → Took (IsElement room k x.0) bs x.1

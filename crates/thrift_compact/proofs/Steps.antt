@@ -28,14 +28,6 @@ cond_err false x y d e = (refl, cc)
 pub one_answer : {S E : Type 0} (r : Result S E) (x y : S) → r ≡ Ok x → r ≡ Ok y → x ≡ y
 one_answer r x y e f = cc
 
-pub when_true : {X : Type 0} (b : Bool) (x y : X) → b ≡ true → (if b then x else y) ≡ x
-when_true true x y e = refl
-when_true false x y e = cc
-
-pub when_false : {X : Type 0} (b : Bool) (x y : X) → b ≡ false → (if b then x else y) ≡ y
-when_false true x y e = cc
-when_false false x y e = refl
-
 pub below : (a b : ℕ) → a < b → nat_lt a b ≡ true
 below a b h = grind (arith, nat_tests)
 

@@ -1,7 +1,7 @@
 -- What a reading took from the front of the bytes.
 use Rattle.std.proofs.Common.{◌≡◌, ℕ, zero, suc, ◌<◌, List, [], ◌∷◌, ◌++◌, refl, sym, ap, ◌∙◌, subst, append_assoc, Result, Ok}
 use Rattle.thrift_compact.specs.Reading.{Fault, byte_at}
-use Rattle.thrift_compact.specs.Laws.{AreBytes}
+use Rattle.thrift_compact.specs.Spelled.{AreBytes}
 
 pub record Took (P : List ℕ → Type 0) (bs r : List ℕ) : Type 0 where
   pub front : List ℕ

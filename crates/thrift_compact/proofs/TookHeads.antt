@@ -7,7 +7,7 @@ use Rattle.thrift_compact.specs.declared.kind.TKind.TheVariants as kind
 use Rattle.thrift_compact.specs.Kinds.{code, of_code}
 use Rattle.thrift_compact.specs.Reading.{Fault, byte_at, known, list_head, list_size, size_at, map_kinds, field_head, head_from, id_at, int16_at, fresh, last, small_id, is_among}
 use Rattle.thrift_compact.specs.Grammar.{IsSize, IsNumber, IsListHead, NamesField, IsFieldHead}
-use Rattle.thrift_compact.specs.Laws.{AreBytes}
+use Rattle.thrift_compact.specs.Spelled.{AreBytes}
 use Rattle.thrift_compact.proofs.Steps.{bind_ok, after_ok, cond_ok, chosen, equal_if, other_if}
 use Rattle.thrift_compact.proofs.Took.{Took, took_ok, took_nothing, took_as, took_then, IsByte, byte_took}
 use Rattle.thrift_compact.proofs.TookNumbers.{size_took, number_took}

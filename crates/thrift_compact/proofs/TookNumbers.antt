@@ -5,7 +5,7 @@ use Rattle.pme_base.specs.Steps.{◌>>=◌}
 use Rattle.pme_base.specs.declared.refusal.ThriftFault.TheVariants.{End, WrongType, Varint, Range}
 use Rattle.thrift_compact.specs.Reading.{byte_at, bytes_at, varint_within, varint_at, zigzag, number_at, size_at, signed_byte, int8_at, binary_at, truth_at}
 use Rattle.thrift_compact.specs.Grammar.{IsVarint, IsBelow, IsSize, IsNumber, IsTruthByte}
-use Rattle.thrift_compact.specs.Laws.{AreBytes}
+use Rattle.thrift_compact.specs.Spelled.{AreBytes}
 use Rattle.thrift_compact.proofs.Steps.{bind_ok, cond_ok, chosen, below_if, not_below_if}
 use Rattle.thrift_compact.proofs.Took.{Took, took_ok, took_as, took_then, IsByte, byte_took}
 use Rattle.thrift_compact.proofs.Numbers.{room_for}

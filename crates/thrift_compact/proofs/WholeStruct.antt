@@ -1,13 +1,14 @@
 -- A struct that stands alone, in the words of its fields.
-use Rattle.std.proofs.Common.{◌≡◌, ℕ, ◌≤◌, ◌-◌, List, ◌++◌, length, take, sym, ap, ◌∙◌, subst, arith, length-append, Ok, Err}
+use Rattle.std.proofs.Common.{◌≡◌, ℕ, ◌-◌, List, ◌++◌, length, take, sym, ap, ◌∙◌, subst, arith, length-append, Ok, Err}
 use Rattle.std.proofs.lemmas.List.{take_at}
 use Rattle.pme_base.specs.Steps.{◌>>=◌}
+use Rattle.pme_base.specs.declared.refusal.ThriftFault.{ThriftFault}
 use Rattle.thrift_compact.specs.declared.kind.TKind.TheVariants as kind
 use Rattle.thrift_compact.specs.Tree.{Tree, struct, Fields}
 use Rattle.thrift_compact.specs.Reading.{Fault, nest, value, whole_struct}
 use Rattle.thrift_compact.specs.Grammar.{Spells}
-use Rattle.thrift_compact.specs.Faults.{Faults}
-use Rattle.thrift_compact.specs.Laws.{AreBytes}
+use Rattle.thrift_compact.specs.Faults.{Faults, HasFault}
+use Rattle.thrift_compact.specs.Spelled.{AreBytes}
 use Rattle.thrift_compact.proofs.Steps.{after_ok, after_err}
 use Rattle.thrift_compact.proofs.Took.{done}
 use Rattle.thrift_compact.proofs.Again.{value_again}
@@ -62,10 +63,10 @@ pub struct_faulty : (room : ℕ) (bytes : List ℕ) (f : Fault) → Faults room 
 struct_faulty room bytes f fault =
     after_err _ ((nest room).fields bytes) (λ x. Ok (struct x.0, x.1)) f (refuses room kind.Struct bytes f fault) (λ refused. refused) (λ x read wrong. cc)
 
-pub whole_refused : (bytes : List ℕ) (f : Fault) → AreBytes bytes → whole_struct bytes ≡ Err f → Faults 32 kind.Struct bytes f × (f.1 ≤ length bytes)
-whole_refused bytes f each refused =
-    let fault : Faults 32 kind.Struct bytes f = struct_refused 32 bytes f each refused in
-    (fault, place_inside 32 kind.Struct bytes f fault)
+pub whole_refused : (bytes : List ℕ) (why : ThriftFault) (left : ℕ) → AreBytes bytes → whole_struct bytes ≡ Err (why, left) → HasFault bytes why (length bytes - left)
+whole_refused bytes why left each refused =
+    let fault : Faults 32 kind.Struct bytes (why, left) = struct_refused 32 bytes (why, left) each refused in
+    (left, omega (arith, place_inside 32 kind.Struct bytes (why, left) fault), fault)
 
-pub whole_faulty : (bytes : List ℕ) (f : Fault) → Faults 32 kind.Struct bytes f → whole_struct bytes ≡ Err f
-whole_faulty bytes f fault = struct_faulty 32 bytes f fault
+pub whole_faulty : (bytes : List ℕ) (why : ThriftFault) (at : ℕ) → HasFault bytes why at → (left : ℕ) × (whole_struct bytes ≡ Err (why, left)) × (at ≡ length bytes - left)
+whole_faulty bytes why at (left, sum, fault) = (left, struct_faulty 32 bytes (why, left) fault, omega (arith, sum))

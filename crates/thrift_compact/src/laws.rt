@@ -1,4 +1,4 @@
-ghost use Rattle.thrift_compact.specs.Laws.{SpelledIsRead, ReadIsSpelled, OneSpelling, RefusedIsFaulty, FaultyIsRefused, EachIsJudged, NeverBoth, OneFault, PlaceInside};
+ghost use Rattle.thrift_compact.specs.Spelled.{SpelledIsRead, ReadIsSpelled, OneSpelling, RefusedIsFaulty, FaultyIsRefused, EachIsJudged, NeverBoth, OneFault, PlaceInside};
 
 /// The law that what the grammar spells is read as the tree that it spells, whatever follows it.
 pub fn what_is_spelled_is_read()

@@ -26,8 +26,8 @@ pub record AreOne (t u : Tree) (front other rest others : List ℕ) : Type 0 whe
 -- so no spelling is the beginning of another one
 abbrev pub OneSpelling : Type 0
 OneSpelling =
-    (room : ℕ) (k : TKind) (t u : Tree) (front other rest others : List ℕ) → Spells room k t front → Spells room k u other
-    → front ++ rest ≡ other ++ others → AreOne t u front other rest others
+    (room : ℕ) (k : TKind) (t u : Tree) (front other rest others : List ℕ) → Spells room k t front
+    → Spells room k u other → front ++ rest ≡ other ++ others → AreOne t u front other rest others
 
 -- the bytes are a spelling of the tree, and the rest
 abbrev pub BeginsWith : ℕ → TKind → Tree → List ℕ → List ℕ → Type 0
@@ -42,7 +42,8 @@ ReadIsSpelled =
 -- what is refused has the fault that is told
 abbrev pub RefusedIsFaulty : Type 0
 RefusedIsFaulty =
-    (room : ℕ) (k : TKind) (bytes : List ℕ) (f : Fault) → AreBytes bytes → value room k bytes ≡ Err f → Faults room k bytes f
+    (room : ℕ) (k : TKind) (bytes : List ℕ) (f : Fault) → AreBytes bytes → value room k bytes ≡ Err f
+    → Faults room k bytes f
 
 -- what has a fault is refused, and told is that fault
 abbrev pub FaultyIsRefused : Type 0
