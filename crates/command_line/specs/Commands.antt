@@ -1,9 +1,9 @@
 -- The command that a line is: nothing where its words are no line of the table.
-use Rattle.std.specs.Prelude.{ℕ, List, [], ◌∷◌, Option, Some, None, codes, if◌then◌else◌}
+use Rattle.std.specs.Prelude.{ℕ, List, [], ◌∷◌, Option, Some, None, codes, option_map, if◌then◌else◌}
 use Rattle.command_line.specs.declared.command.Command.{Command}
 use Rattle.command_line.specs.declared.command.Command.TheVariants as command
 use Rattle.command_line.specs.declared.verb.Verb.{Verb}
-use Rattle.command_line.specs.declared.verb.Verb.TheVariants.{Module}
+use Rattle.command_line.specs.declared.verb.Verb.TheVariants.{Module, Thrift}
 use Rattle.command_line.specs.Verbs.{verb_of}
 use Rattle.command_line.specs.Options.{value_of, are_options}
 use Rattle.command_line.specs.Values.{key_of_hex, associated_data_of_hex}
@@ -22,8 +22,12 @@ abbrev pub module_of : List (List ℕ) → Option Command
 module_of options =
     with_three (value_of (codes "--key") options) (value_of (codes "--aad") options) (value_of (codes "--file") options) module_with
 
+abbrev pub thrift_of : List (List ℕ) → Option Command
+thrift_of options = option_map command.Thrift (value_of (codes "--file") options)
+
 abbrev pub command_by : Verb → List (List ℕ) → Option Command
 command_by Module options = module_of options
+command_by Thrift options = thrift_of options
 
 abbrev pub command_with : Verb → List (List ℕ) → Option Command
 command_with verb options = if are_options verb options then command_by verb options else None

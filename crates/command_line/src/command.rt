@@ -18,6 +18,8 @@ pub enum Command {
         associated_data: AssociatedData,
         file: Text,
     },
+    /// Print the struct at the front of `file` as text.
+    Thrift { file: Text },
 }
 
 /// The command that the words are, or None where they are no line of the table.
@@ -41,6 +43,7 @@ fn command_with(alloc: Global, verb: Verb, options: &[Text]) -> Result<Option<Co
     }
     match verb {
         Verb::Module => module_of(alloc, options),
+        Verb::Thrift => thrift_of(alloc, options),
     }
 }
 
@@ -79,4 +82,14 @@ fn module_with(
         associated_data,
         file,
     }))
+}
+
+fn thrift_of(alloc: Global, options: &[Text]) -> Result<Option<Command>, OutOfMemory>
+    ensures { IfOk result (λ command. command ≡ defined.thrift_of options.now) }
+{
+    let Some(file) = value_of("--file", options) else {
+        return Ok(None);
+    };
+    let file = Text::copy_of(alloc, file)?;
+    Ok(Some(Command::Thrift { file }))
 }

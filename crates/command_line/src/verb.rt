@@ -5,6 +5,7 @@ ghost use Rattle.command_line.specs.Verbs as defined;
 #[derive(Clone, Copy, Drop)]
 pub enum Verb {
     Module,
+    Thrift,
 }
 
 /// The command that `word` names.
@@ -13,6 +14,7 @@ pub fn verb_of(word: &str) -> Option<Verb>
 {
     match word {
         "module" => Some(Verb::Module),
+        "thrift" => Some(Verb::Thrift),
         _ => None,
     }
 }
@@ -31,5 +33,6 @@ pub fn takes(verb: Verb, name: &str) -> bool
             }
             name == "--file"
         }
+        Verb::Thrift => name == "--file",
     }
 }

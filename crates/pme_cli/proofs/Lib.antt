@@ -1,4 +1,5 @@
 pub mod Cases
 pub mod Prints
 pub mod Openings
+pub mod TextAnswers
 pub mod Answered

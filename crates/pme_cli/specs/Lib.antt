@@ -2,6 +2,9 @@ pub mod Stops
 pub mod Outcomes
 pub mod Reading
 pub mod SealedFile
+pub mod SmallFile
 pub mod Printing
+pub mod TextCommand
 pub mod ModuleCommand
+pub mod ThriftCommand
 pub mod Lines

@@ -1,9 +1,9 @@
 -- What a run owes its words: Usage exactly where they are no line, and what the command that they are says.
 use Rattle.std.specs.Prelude.{◌≡◌, ℕ, Bool, true, false, List, Option, Some, None, Result, Ok, Err}
 use Rattle.command_line.specs.declared.command.Command.{Command}
-use Rattle.command_line.specs.declared.command.Command.TheVariants.{Module}
+use Rattle.command_line.specs.declared.command.Command.TheVariants.{Module, Thrift}
 use Rattle.pme_base.specs.declared.refusal.Cause.{Cause}
-use Rattle.pme_base.specs.declared.refusal.Cause.TheVariants.{Usage, OutOfMemory}
+use Rattle.pme_base.specs.declared.refusal.Cause.TheVariants.{Usage, BadThrift, OutOfMemory}
 use Rattle.pme_cli.specs.declared.stop.Stop.{Stop}
 use Rattle.pme_cli.specs.Stops.{plain_stop}
 use Rattle.pme_cli.specs.ModuleCommand.{is_module_cause}
@@ -12,6 +12,13 @@ use Rattle.pme_cli.specs.ModuleCommand.{is_module_cause}
 abbrev pub IfModule : Option Command → (List ℕ → List ℕ → List ℕ → Type 0) → Type 0
 IfModule None P = Unit {0}
 IfModule (Some (Module key associated_data file)) P = P key associated_data file
+IfModule (Some _) P = Unit {0}
+
+-- what holds of the file of `thrift`
+abbrev pub IfThrift : Option Command → (List ℕ → Type 0) → Type 0
+IfThrift None P = Unit {0}
+IfThrift (Some (Thrift file)) P = P file
+IfThrift (Some _) P = Unit {0}
 
 abbrev pub is_usage_cause : Cause → Bool
 is_usage_cause Usage = true
@@ -37,8 +44,5 @@ UsageExactly (Some command) outcome = is_usage outcome ≡ false
 -- the causes by which a run can end
 abbrev pub is_outcome_cause : Cause → Bool
 is_outcome_cause Usage = true
+is_outcome_cause BadThrift = true
 is_outcome_cause cause = is_module_cause cause
-
-abbrev pub is_outcome : Result Unit Stop → Bool
-is_outcome (Ok _) = true
-is_outcome (Err stop) = is_outcome_cause stop.refusal.cause

@@ -1,3 +1,5 @@
 mod module;
+mod thrift;
 
 pub use module::module;
+pub use thrift::thrift;

@@ -7,6 +7,7 @@ mod printing;
 mod reading;
 mod run;
 mod sealed_file;
+mod small_file;
 mod stop;
 #[cfg(test)]
 mod tests;

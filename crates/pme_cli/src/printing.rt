@@ -1,9 +1,15 @@
-ghost use Rattle.std.specs.Prelude.{◌≡◌, ◌++◌, ◌∷◌, [], true, OnOk, OnErr};
-ghost use Rattle.pme_base.specs.Outside.{PutsFront, followed_by};
-ghost use Rattle.pme_base.specs.Steps.{WritesFail};
-ghost use Rattle.pme_cli.specs.Printing.{hex_line, is_printing_result};
+ghost use Rattle.std.specs.Prelude.{◌≡◌, ℕ, List, Bool, Option, Result, true, IfOk, OnOk, OnErr, IsOkAnd};
+ghost use Rattle.pme_base.specs.declared.refusal.Cause.{Cause};
+ghost use Rattle.pme_base.specs.declared.refusal.Refusal.{Refusal};
+ghost use Rattle.pme_base.specs.Outside.{Published, PutsFront, followed_by};
+ghost use Rattle.pme_base.specs.Steps.{ReadsFail, WritesFail};
+ghost use Rattle.pme_cli.specs.Outcomes.{StopsReading, StopsWriting};
+ghost use Rattle.pme_cli.specs.Printing.{is_printing_result};
+ghost use Rattle.pme_cli.specs.Printing as defined;
+ghost use Rattle.pme_cli.specs.TextCommand.{AnswersText, TextAnswered, IsQuietWriter, EndsPrinting, caused_by, stopped_by};
 
-use pme_base::{Cause, Refusal, Sink, Trouble, plain_refusal};
+use crate::stop::{Stop, stop_of};
+use pme_base::{Bytes, Cause, OutOfMemory, Refusal, Sink, Text, Trouble, plain_refusal};
 use std::alloc::Global;
 
 /// Writes all of `bytes`; where that fails, a front of them may stand.
@@ -20,28 +26,37 @@ fn print<O: Sink>(bytes: &[u8], out: &mut O) -> Result<(), Refusal>
     }
 }
 
-/// Writes the bytes in lower-case hex, and a line feed.
-pub fn print_hex<O: Sink>(alloc: Global, bytes: &[u8], out: &mut O) -> Result<(), Refusal>
-    ensures all { OnOk result (O.written out.new ≡ followed_by (hex_line bytes.now) (O.written out.old)) }
-    ensures part { OnErr result (PutsFront (hex_line bytes.now) (O.written out.old) (O.written out.new)) }
-    ensures writes { WritesFail (O.faults out.old) (O.faults out.new) result }
-    ensures causes { is_printing_result result ≡ true }
+/// The bytes in lower-case hex, and a line feed.
+pub fn hex_line(alloc: Global, bytes: &[u8]) -> Result<Bytes, OutOfMemory>
+    ensures { IfOk result (λ line. line ≡ defined.hex_line bytes.now) }
 {
-    match hex::encode(alloc, bytes) {
-        Ok(text) => print_line(text.as_bytes(), out),
-        Err(_) => Err(plain_refusal(Cause::OutOfMemory)),
-    }
+    let text = match hex::encode(alloc, bytes) {
+        Ok(text) => text,
+        Err(_) => return Err(OutOfMemory),
+    };
+    let mut line = Bytes::from_vec(text.into_bytes());
+    line.push(b'\n')?;
+    Ok(line)
 }
 
-/// Writes the text, and a line feed.
-fn print_line<O: Sink>(text: &[u8], out: &mut O) -> Result<(), Refusal>
-    ensures all { OnOk result (O.written out.new ≡ followed_by (text.now ++ 10 ∷ []) (O.written out.old)) }
-    ensures part { OnErr result (PutsFront (text.now ++ 10 ∷ []) (O.written out.old) (O.written out.new)) }
-    ensures writes { WritesFail (O.faults out.old) (O.faults out.new) result }
-    ensures causes { is_printing_result result ≡ true }
+/// Ends a command that prints one text: prints it, or stops by what refused it, which is about the file `name`.
+pub fn print_text<O: Sink>(
+    alloc: Global,
+    text: Result<Bytes, Refusal>,
+    name: Text,
+    out: &mut O,
+) -> Result<(), Stop>
+    ensures answered { (told : Option Published) (defined : Published → Result (List ℕ) Refusal) → AnswersText text defined told → TextAnswered name defined told (O.written out.old) (O.written out.new) result }
+    ensures printed { OnOk result (IsOkAnd text (λ t. O.written out.new ≡ followed_by t (O.written out.old))) }
+    ensures reads { (before now : ℕ) → ReadsFail before now text → StopsReading before now result }
+    ensures writes { IsQuietWriter text → StopsWriting (O.faults out.old) (O.faults out.new) result }
+    ensures causes { (is_cause : Cause → Bool) → EndsPrinting is_cause → caused_by is_cause text ≡ true → stopped_by is_cause result ≡ true }
 {
-    match print(text, out) {
-        Ok(()) => print(b"\n", out),
-        Err(refusal) => Err(refusal),
+    match text {
+        Ok(text) => match print(text.as_slice(), out) {
+            Ok(()) => Ok(()),
+            Err(refusal) => Err(stop_of(alloc, refusal, name)),
+        },
+        Err(refusal) => Err(stop_of(alloc, refusal, name)),
     }
 }

@@ -9,7 +9,10 @@ ghost use Rattle.pme_cli.specs.Outcomes.{outcome_of, number_of, last_line, Stops
 ghost use Rattle.std.specs.FinMap.{get};
 ghost use Rattle.pme_cli.specs.SealedFile.{sealed_bytes};
 ghost use Rattle.pme_cli.specs.ModuleCommand.{ModuleAnswered, ModuleCompletes};
-ghost use Rattle.pme_cli.specs.Lines.{IfModule, UsageExactly, is_outcome, is_usage};
+ghost use Rattle.pme_cli.specs.SmallFile.{small_bytes};
+ghost use Rattle.pme_cli.specs.ThriftCommand.{ThriftAnswered, ThriftCompletes};
+ghost use Rattle.pme_cli.specs.Lines.{IfModule, IfThrift, UsageExactly, is_outcome_cause, is_usage};
+ghost use Rattle.pme_cli.specs.TextCommand.{stopped_by};
 
 use crate::commands;
 use crate::stop::{Stop, plain_stop};
@@ -47,7 +50,9 @@ pub fn run<F: Files, N: Random, O: Sink, E: Sink>(
     ensures usage { UsageExactly (line.command_of words.now) (outcome_of result.refusal result.subject) }
 
     ensures module { IfModule (line.command_of words.now) (λ key aad file. ModuleAnswered key aad file (F.published files.old) (O.written out.old) (O.written out.new) (outcome_of result.refusal result.subject)) }
-    ensures complete { IfModule (line.command_of words.now) (λ key aad file. ModuleCompletes key aad file (F.published files.old) (Rose (F.faults files.old) (F.faults files.new) ⊎ Rose (O.faults out.old) (O.faults out.new)) (outcome_of result.refusal result.subject)) }
+    ensures module_complete { IfModule (line.command_of words.now) (λ key aad file. ModuleCompletes key aad file (F.published files.old) (Rose (F.faults files.old) (F.faults files.new) ⊎ Rose (O.faults out.old) (O.faults out.new)) (outcome_of result.refusal result.subject)) }
+    ensures thrift { IfThrift (line.command_of words.now) (λ file. ThriftAnswered file (F.published files.old) (O.written out.old) (O.written out.new) (outcome_of result.refusal result.subject)) }
+    ensures thrift_complete { IfThrift (line.command_of words.now) (λ file. ThriftCompletes file (F.published files.old) (Rose (F.faults files.old) (F.faults files.new) ⊎ Rose (O.faults out.old) (O.faults out.new)) (outcome_of result.refusal result.subject)) }
 
     // A fault comes only where the count of the object that failed rose in this call.
     ensures reads { StopsReading (F.faults files.old) (F.faults files.new) (outcome_of result.refusal result.subject) }
@@ -63,7 +68,8 @@ pub fn run<F: Files, N: Random, O: Sink, E: Sink>(
     // What stands afterwards.
     ensures published { F.published files.new ≡ F.published files.old }
     ensures to_come { N.to_come random.new ≡ N.to_come random.old }
-    ensures field { IfModule (line.command_of words.now) (λ key aad file. IfSome (F.published files.old) (λ told. IfErr (sealed_bytes (get told file)) (λ _. F.given files.new ≤ F.given files.old + 4))) }
+    ensures module_field { IfModule (line.command_of words.now) (λ key aad file. IfSome (F.published files.old) (λ told. IfErr (sealed_bytes (get told file)) (λ _. F.given files.new ≤ F.given files.old + 4))) }
+    ensures thrift_unread { IfThrift (line.command_of words.now) (λ file. IfSome (F.published files.old) (λ told. IfErr (small_bytes (get told file)) (λ _. F.given files.new ≡ F.given files.old))) }
     ensures given { F.given files.new ≤ F.given files.old + 16777248 }
     ensures unread { IsNone (line.command_of words.now) → F.given files.new ≡ F.given files.old }
 {
@@ -96,12 +102,15 @@ fn obey<F: Files, O: Sink>(
 ) -> Result<(), Stop>
     ensures usage { UsageExactly (line.command_of words.now) result }
     ensures module { IfModule (line.command_of words.now) (λ key aad file. ModuleAnswered key aad file (F.published files.old) (O.written out.old) (O.written out.new) result) }
-    ensures complete { IfModule (line.command_of words.now) (λ key aad file. ModuleCompletes key aad file (F.published files.old) (Rose (F.faults files.old) (F.faults files.new) ⊎ Rose (O.faults out.old) (O.faults out.new)) result) }
+    ensures module_complete { IfModule (line.command_of words.now) (λ key aad file. ModuleCompletes key aad file (F.published files.old) (Rose (F.faults files.old) (F.faults files.new) ⊎ Rose (O.faults out.old) (O.faults out.new)) result) }
+    ensures thrift { IfThrift (line.command_of words.now) (λ file. ThriftAnswered file (F.published files.old) (O.written out.old) (O.written out.new) result) }
+    ensures thrift_complete { IfThrift (line.command_of words.now) (λ file. ThriftCompletes file (F.published files.old) (Rose (F.faults files.old) (F.faults files.new) ⊎ Rose (O.faults out.old) (O.faults out.new)) result) }
     ensures reads { StopsReading (F.faults files.old) (F.faults files.new) result }
     ensures writes { StopsWriting (O.faults out.old) (O.faults out.new) result }
-    ensures causes { is_outcome result ≡ true }
+    ensures causes { stopped_by is_outcome_cause result ≡ true }
     ensures published { F.published files.new ≡ F.published files.old }
-    ensures field { IfModule (line.command_of words.now) (λ key aad file. IfSome (F.published files.old) (λ told. IfErr (sealed_bytes (get told file)) (λ _. F.given files.new ≤ F.given files.old + 4))) }
+    ensures module_field { IfModule (line.command_of words.now) (λ key aad file. IfSome (F.published files.old) (λ told. IfErr (sealed_bytes (get told file)) (λ _. F.given files.new ≤ F.given files.old + 4))) }
+    ensures thrift_unread { IfThrift (line.command_of words.now) (λ file. IfSome (F.published files.old) (λ told. IfErr (small_bytes (get told file)) (λ _. F.given files.new ≡ F.given files.old))) }
     ensures given { F.given files.new ≤ F.given files.old + 16777248 }
     ensures unread { IsNone (line.command_of words.now) → F.given files.new ≡ F.given files.old }
 {
@@ -119,13 +128,16 @@ fn dispatch<F: Files, O: Sink>(
     out: &mut O,
 ) -> Result<(), Stop>
     ensures module { IfModule (Some command) (λ key aad file. ModuleAnswered key aad file (F.published files.old) (O.written out.old) (O.written out.new) result) }
-    ensures complete { IfModule (Some command) (λ key aad file. ModuleCompletes key aad file (F.published files.old) (Rose (F.faults files.old) (F.faults files.new) ⊎ Rose (O.faults out.old) (O.faults out.new)) result) }
+    ensures module_complete { IfModule (Some command) (λ key aad file. ModuleCompletes key aad file (F.published files.old) (Rose (F.faults files.old) (F.faults files.new) ⊎ Rose (O.faults out.old) (O.faults out.new)) result) }
+    ensures thrift { IfThrift (Some command) (λ file. ThriftAnswered file (F.published files.old) (O.written out.old) (O.written out.new) result) }
+    ensures thrift_complete { IfThrift (Some command) (λ file. ThriftCompletes file (F.published files.old) (Rose (F.faults files.old) (F.faults files.new) ⊎ Rose (O.faults out.old) (O.faults out.new)) result) }
     ensures not_usage { is_usage result ≡ false }
     ensures reads { StopsReading (F.faults files.old) (F.faults files.new) result }
     ensures writes { StopsWriting (O.faults out.old) (O.faults out.new) result }
-    ensures causes { is_outcome result ≡ true }
+    ensures causes { stopped_by is_outcome_cause result ≡ true }
     ensures published { F.published files.new ≡ F.published files.old }
-    ensures field { IfModule (Some command) (λ key aad file. IfSome (F.published files.old) (λ told. IfErr (sealed_bytes (get told file)) (λ _. F.given files.new ≤ F.given files.old + 4))) }
+    ensures module_field { IfModule (Some command) (λ key aad file. IfSome (F.published files.old) (λ told. IfErr (sealed_bytes (get told file)) (λ _. F.given files.new ≤ F.given files.old + 4))) }
+    ensures thrift_unread { IfThrift (Some command) (λ file. IfSome (F.published files.old) (λ told. IfErr (small_bytes (get told file)) (λ _. F.given files.new ≡ F.given files.old))) }
     ensures given { F.given files.new ≤ F.given files.old + 16777248 }
 {
     match command {
@@ -134,6 +146,7 @@ fn dispatch<F: Files, O: Sink>(
             associated_data,
             file,
         } => commands::module(alloc, key, associated_data, file, files, out),
+        Command::Thrift { file } => commands::thrift(alloc, file, files, out),
     }
 }
 

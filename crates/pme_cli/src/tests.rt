@@ -1,13 +1,13 @@
-// The worked cases of `module`, through `run` over objects in memory. Expected texts come from SP 800-38D's test
-// cases and from OpenSSL.
+// The worked cases of the commands, through `run` over objects in memory. Expected texts of `module` come from
+// SP 800-38D's test cases and from OpenSSL; those of `thrift` were worked out by hand from the compact protocol.
 use crate::run::run;
 use pme_base::{Bytes, MemFiles, MemRandom, MemSink, OutOfMemory, Trouble, Words};
 use std::alloc::Global;
 use std::process::Abort;
 use std::test::Fail;
 
-/// Words (`''` is an empty one), the bytes of `m.bin` in hex, the number, and the line that is printed: to `out` where
-/// the number is 0, else to `err`.
+/// Words (`''` is an empty one), the bytes of `m.bin` and `t.bin` in hex, the number, and the lines that are printed:
+/// to `out` where the number is 0, else to `err`.
 const CASES: &str = "\
 module --key 00000000000000000000000000000000 --aad '' --file m.bin|1c00000000000000000000000000000058e2fccefa7e3061367f1d57a4e7455a|0|
 module --key 00000000000000000000000000000000 --aad '' --file m.bin|1c00000000000000000000000000000058e2fccefa7e3061367f1d57a4e7455b|3|refused 3 BadTag in m.bin module at 0 58e2fccefa7e3061367f1d57a4e7455a 58e2fccefa7e3061367f1d57a4e7455b
@@ -35,12 +35,29 @@ module --key 00000000000000000000000000000000 --aad '' --file|2c0000000000000000
 module --key 00000000000000000000000000000000 --key 00000000000000000000000000000000 --aad '' --file m.bin|2c0000000000000000000000000000000388dace60b6a392f328c2b971b2fe78ab6e47d42cec13bdf53a67b21257bddf|64|refused 64 Usage
 module --key 00000000000000000000000000000000 --aad '' --file m.bin --rows 1|2c0000000000000000000000000000000388dace60b6a392f328c2b971b2fe78ab6e47d42cec13bdf53a67b21257bddf|64|refused 64 Usage
 module --key 00000000000000000000000000000000 --aad --file --file m.bin|2c0000000000000000000000000000000388dace60b6a392f328c2b971b2fe78ab6e47d42cec13bdf53a67b21257bddf|64|refused 64 Usage
---help|2c0000000000000000000000000000000388dace60b6a392f328c2b971b2fe78ab6e47d42cec13bdf53a67b21257bddf|64|refused 64 Usage";
+--help|2c0000000000000000000000000000000388dace60b6a392f328c2b971b2fe78ab6e47d42cec13bdf53a67b21257bddf|64|refused 64 Usage
+thrift --file t.bin|150200|0|{1: 1}|rest 0
+thrift --file t.bin|15820000|0|{1: 1}|rest 0
+thrift --file t.bin|1b015802016100|0|{1: (1=>x61)}|rest 0
+thrift --file t.bin|19350204060000|0|{1: [1, 2, 3]}|rest 1
+thrift --file t.bin|1100|0|{1: true}|rest 0
+thrift --file t.bin|1c1c1c1c1c1c1c1c1c1c1c1c1c1c1c1c1c1c1c1c1c1c1c1c1c1c1c1c1c1c1c0000000000000000000000000000000000000000000000000000000000000000|0|{1: {1: {1: {1: {1: {1: {1: {1: {1: {1: {1: {1: {1: {1: {1: {1: {1: {1: {1: {1: {1: {1: {1: {1: {1: {1: {1: {1: {1: {1: {1: {}}}}}}}}}}}}}}}}}}}}}}}}}}}}}}}}|rest 0
+thrift --file t.bin|150205020400|4|refused 4 BadThrift in t.bin file at 2 repeated
+thrift --file t.bin||4|refused 4 BadThrift in t.bin file at 0 end
+thrift --file t.bin|19fcffffffff07|4|refused 4 BadThrift in t.bin file at 7 end
+thrift --file t.bin|19fcffffffff08|4|refused 4 BadThrift in t.bin file at 2 range
+thrift --file t.bin|1c1c1c1c1c1c1c1c1c1c1c1c1c1c1c1c1c1c1c1c1c1c1c1c1c1c1c1c1c1c1c1c000000000000000000000000000000000000000000000000000000000000000000|4|refused 4 BadThrift in t.bin file at 32 depth
+thrift --file none.bin|150200|60|refused 60 NoFile in none.bin
+thrift|150200|64|refused 64 Usage
+thrift --file t.bin --key 00|150200|64|refused 64 Usage
+thrift --file t.bin --file t.bin|150200|64|refused 64 Usage";
 
 const SEALED_ZEROS: &str =
     "2c0000000000000000000000000000000388dace60b6a392f328c2b971b2fe78ab6e47d42cec13bdf53a67b21257bddf";
 
 const LINE: &str = "module --key 00000000000000000000000000000000 --aad '' --file m.bin";
+
+const THRIFT_LINE: &str = "thrift --file t.bin";
 
 /// What a run answered and wrote.
 #[derive(Drop)]
@@ -76,6 +93,7 @@ fn given(alloc: Global, file: &str) -> Result<Objects, Fail> {
     let bytes = hex::decode(alloc, file)?;
     let mut files = MemFiles::new(alloc);
     files.store("m.bin", bytes.as_slice())?;
+    files.store("t.bin", bytes.as_slice())?;
     Ok(Objects {
         files,
         out: MemSink::new(alloc),
@@ -102,16 +120,23 @@ fn ran(alloc: Global, words: &Words, mut given: Objects) -> Result<Outcome, OutO
     })
 }
 
-fn same_line(rt: &impl Abort, written: &Bytes, line: &str, note: &str) {
+/// Whether these lines were written, each with its line feed; in `lines` a bar stands between two.
+fn same_lines(rt: &impl Abort, written: &Bytes, lines: &str, note: &str) {
     match written.as_slice().strip_suffix(b"\n".as_slice()) {
-        Some(text) => assert_eq!(rt; text, line.as_bytes(), "{note}"),
+        Some(text) => {
+            assert_eq!(rt; text.len(), lines.len(), "{note}");
+            for (byte, wanted) in text.iter().zip(lines.bytes()) {
+                let wanted = if wanted == b'|' { b'\n' } else { wanted };
+                assert_eq!(rt; *byte, wanted, "{note}");
+            }
+        }
         None => assert!(rt; false, "{note}"),
     }
 }
 
 fn check_case<R: Abort + AllocGlobal>(rt: &R, case: &str) -> Result<(), Fail> {
     let alloc = rt.alloc();
-    let mut fields = case.split('|');
+    let mut fields = case.splitn(4, '|');
     let words = words_of(alloc, fields.next().ok_or("words")?)?;
     let file = fields.next().ok_or("file")?;
     let number = fields.next().ok_or("number")?.parse::<u8>()?;
@@ -120,10 +145,10 @@ fn check_case<R: Abort + AllocGlobal>(rt: &R, case: &str) -> Result<(), Fail> {
     assert_eq!(rt; ran.number, number, "{case}");
     if number == 0 {
         assert_eq!(rt; ran.err.len(), 0, "{case}");
-        same_line(rt, &ran.out, line, case);
+        same_lines(rt, &ran.out, line, case);
     } else {
         assert_eq!(rt; ran.out.len(), 0, "{case}");
-        same_line(rt, &ran.err, line, case);
+        same_lines(rt, &ran.err, line, case);
     }
     Ok(())
 }
@@ -154,14 +179,16 @@ fn bounds_associated_data(rt: HostRuntime) -> Result<(), Fail> {
 #[test]
 fn tells_faults_of_reading(rt: HostRuntime) -> Result<(), Fail> {
     let alloc = rt.alloc();
-    let words = words_of(alloc, LINE)?;
-    for call in 0..3 {
-        let mut given = given(alloc, SEALED_ZEROS)?;
-        given.files.fail(call)?;
-        let ran = ran(alloc, &words, given)?;
-        assert_eq!(rt; ran.number, 61);
-        assert_eq!(rt; ran.out.len(), 0);
-        same_line(&rt, &ran.err, "refused 61 ReadFault", "reading");
+    for (line, calls) in [(LINE, 3), (THRIFT_LINE, 2)] {
+        let words = words_of(alloc, line)?;
+        for call in 0..calls {
+            let mut given = given(alloc, SEALED_ZEROS)?;
+            given.files.fail(call)?;
+            let ran = ran(alloc, &words, given)?;
+            assert_eq!(rt; ran.number, 61);
+            assert_eq!(rt; ran.out.len(), 0);
+            same_lines(&rt, &ran.err, "refused 61 ReadFault", "reading");
+        }
     }
     Ok(())
 }
@@ -170,14 +197,12 @@ fn tells_faults_of_reading(rt: HostRuntime) -> Result<(), Fail> {
 fn tells_faults_of_writing(rt: HostRuntime) -> Result<(), Fail> {
     let alloc = rt.alloc();
     let words = words_of(alloc, LINE)?;
-    for (call, digits) in [(0, 0), (1, 32)] {
-        let mut given = given(alloc, SEALED_ZEROS)?;
-        given.out.fail(call)?;
-        let ran = ran(alloc, &words, given)?;
-        assert_eq!(rt; ran.number, 62);
-        assert_eq!(rt; ran.out.len(), digits);
-        same_line(&rt, &ran.err, "refused 62 WriteFault", "writing");
-    }
+    let mut given = given(alloc, SEALED_ZEROS)?;
+    given.out.fail(0)?;
+    let ran = ran(alloc, &words, given)?;
+    assert_eq!(rt; ran.number, 62);
+    assert_eq!(rt; ran.out.len(), 0);
+    same_lines(&rt, &ran.err, "refused 62 WriteFault", "writing");
     Ok(())
 }
 
@@ -201,5 +226,19 @@ fn reads_the_length_field_and_then_the_rest(rt: HostRuntime) -> Result<(), Fail>
     let ran = ran(alloc, &words, given(alloc, SEALED_ZEROS)?)?;
     assert_eq!(rt; ran.number, 0);
     assert_eq!(rt; ran.largest_read, 44);
+    Ok(())
+}
+
+#[test]
+fn leaves_a_file_over_the_limit_unread(rt: HostRuntime) -> Result<(), Fail> {
+    let alloc = rt.alloc();
+    let words = words_of(alloc, "thrift --file large.bin")?;
+    let mut given = given(alloc, "")?;
+    given.files.store("large.bin", vec![in alloc; 0u8; 16_777_217]?.as_slice())?;
+    let ran = ran(alloc, &words, given)?;
+    assert_eq!(rt; ran.number, 50);
+    assert_eq!(rt; ran.largest_read, 0);
+    let line = "refused 50 TooLarge in large.bin file at 0 16777217 16777216";
+    same_lines(&rt, &ran.err, line, "size");
     Ok(())
 }

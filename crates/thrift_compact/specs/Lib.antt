@@ -1,8 +1,13 @@
+pub mod Answers
+pub use Rattle.hex.specs.Hex
 pub mod Faults
 pub mod Grammar
 pub mod Kinds
+pub mod Laws
 pub mod Reading
 pub mod Spelled
 pub mod Spelling
+pub mod Text
 pub mod Tree
 pub mod View
+pub mod Whole

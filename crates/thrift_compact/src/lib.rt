@@ -2,9 +2,17 @@
 // walks the bytes by types without building one, the canonical spelling, a writer of it, and a tree's text.
 #![tactic(auto)]
 
+mod cursor;
+mod heads;
+mod ids;
 mod kind;
 mod laws;
+mod read;
+mod put;
 mod refusal;
+mod show;
+#[cfg(test)]
+mod show_tests;
 mod tree;
 
 pub use kind::TKind;
@@ -12,5 +20,7 @@ pub use laws::{
     bytes_are_spelled_or_faulty, one_spelling, what_is_faulty_is_refused, what_is_read_is_spelled,
     what_is_refused_is_faulty, what_is_spelled_is_read,
 };
+pub use read::read_tree;
 pub use refusal::ThriftRefusal;
+pub use show::show_tree;
 pub use tree::{TFields, TList, TMap, TVal};

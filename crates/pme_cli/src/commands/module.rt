@@ -6,16 +6,18 @@ ghost use Rattle.pme_terms.specs.Counts.{Rose};
 ghost use Rattle.crypto_module.specs.Modules.{IsGcm};
 ghost use Rattle.crypto_module.specs.Frames as frames;
 ghost use Rattle.pme_cli.specs.SealedFile.{plaintext_limit, opened_buffer, opened_file, sealed_bytes};
-ghost use Rattle.pme_cli.specs.ModuleCommand.{ModuleAnswered, ModuleCompletes, is_module_outcome, is_opening_result};
+ghost use Rattle.pme_cli.specs.TextCommand.{AnswersText, caused_by, stopped_by};
+ghost use Rattle.pme_cli.specs.ModuleCommand.{ModuleAnswered, ModuleCompletes, IsSealedText, is_module_cause, is_opening_cause};
+ghost use Rattle.pme_cli.specs.ModuleCommand as defined;
 
 use crate::opened::Opened;
-use crate::printing::print_hex;
+use crate::printing::{hex_line, print_text};
 use crate::sealed_file::{PLAINTEXT_LIMIT, read_sealed};
-use crate::stop::{Stop, stop_of};
+use crate::stop::Stop;
 use aes_block::AesKey;
 use command_line::AssociatedData;
 use crypto_module::read_gcm;
-use pme_base::{Files, Place, Refusal, Sink, Text};
+use pme_base::{Bytes, Cause, Files, Place, Refusal, Sink, Text, plain_refusal};
 use std::alloc::Global;
 
 /// Opens the module that fills the file `name`, and prints its plaintext in hex.
@@ -31,17 +33,38 @@ pub fn module<F: Files, O: Sink>(
     ensures reads { StopsReading (F.faults files.old) (F.faults files.new) result }
     ensures writes { StopsWriting (O.faults out.old) (O.faults out.new) result }
     ensures complete { ModuleCompletes key associated_data name (F.published files.old) (Rose (F.faults files.old) (F.faults files.new) ⊎ Rose (O.faults out.old) (O.faults out.new)) result }
-    ensures causes { is_module_outcome result ≡ true }
+    ensures causes { stopped_by is_module_cause result ≡ true }
     ensures published { F.published files.new ≡ F.published files.old }
     ensures field { IfSome (F.published files.old) (λ told. IfErr (sealed_bytes (get told name)) (λ _. F.given files.new ≤ F.given files.old + 4)) }
     ensures given { F.given files.new ≤ F.given files.old + 16777248 }
 {
-    match open_file(alloc, &key, &associated_data, files, name.as_str()) {
-        Ok(opened) => match print_hex(alloc, opened.plaintext(), out) {
-            Ok(()) => Ok(()),
-            Err(refusal) => Err(stop_of(alloc, refusal, name)),
-        },
-        Err(refusal) => Err(stop_of(alloc, refusal, name)),
+    let text = module_text(alloc, &key, &associated_data, files, name.as_str());
+    print_text(alloc, text, name, out)
+}
+
+/// The plaintext of the module that fills the file `name`, in hex.
+fn module_text<F: Files>(
+    alloc: Global,
+    key: &AesKey,
+    associated_data: &AssociatedData,
+    files: &mut F,
+    name: &str,
+) -> Result<Bytes, Refusal>
+    ensures answer { AnswersText result (λ files. defined.module_text key.now associated_data.now (get files name.now)) (F.published files.old) }
+    ensures sealed { IfOk result (λ text. IfSome (F.published files.old) (λ told. IsSealedText key.now associated_data.now (get told name.now) text)) }
+    ensures reads { ReadsFail (F.faults files.old) (F.faults files.new) result }
+    ensures causes { caused_by is_opening_cause result ≡ true }
+    ensures published { F.published files.new ≡ F.published files.old }
+    ensures field { IfSome (F.published files.old) (λ told. IfErr (sealed_bytes (get told name.now)) (λ _. F.given files.new ≤ F.given files.old + 4)) }
+    ensures given { F.given files.new ≤ F.given files.old + 16777248 }
+{
+    let opened = match open_file(alloc, key, associated_data, files, name) {
+        Ok(opened) => opened,
+        Err(refusal) => return Err(refusal),
+    };
+    match hex_line(alloc, opened.plaintext()) {
+        Ok(line) => Ok(line),
+        Err(_) => Err(plain_refusal(Cause::OutOfMemory)),
     }
 }
 
@@ -56,7 +79,7 @@ fn open_file<F: Files>(
     ensures answer { IfSome (F.published files.old) (λ told. Answers result (opened_file key.now associated_data.now (get told name.now))) }
     ensures sealed { IfOk result (λ plain. IfSome (F.published files.old) (λ told. IsSomeAnd (get told name.now) (IsGcm key.now associated_data.now plain plaintext_limit))) }
     ensures reads { ReadsFail (F.faults files.old) (F.faults files.new) result }
-    ensures causes { is_opening_result result ≡ true }
+    ensures causes { caused_by is_opening_cause result ≡ true }
     ensures published { F.published files.new ≡ F.published files.old }
     ensures field { IfSome (F.published files.old) (λ told. IfErr (sealed_bytes (get told name.now)) (λ _. F.given files.new ≤ F.given files.old + 4)) }
     ensures given { F.given files.new ≤ F.given files.old + 16777248 }

@@ -1,18 +1,25 @@
-use Rattle.std.proofs.Common.{◌≡◌, true, Err, rules}
-use Rattle.pme_cli.specs.Stops.{stop_of}
-use Rattle.pme_cli.specs.Outcomes.{StopsReading, StopsWriting}
-use Rattle.pme_cli.specs.ModuleCommand.{is_module_outcome}
-use Rattle.pme_cli.proofs.Answered.{unopened, completes}
+use Rattle.std.proofs.Common.{◌≡◌, true, refl, rules}
+use Rattle.pme_cli.specs.Outcomes.{StopsWriting}
+use Rattle.pme_cli.specs.TextCommand.{TextAnswered}
+use Rattle.pme_cli.specs.ModuleCommand.{is_module_cause, module_text}
+use Rattle.std.specs.FinMap.{get}
+use Rattle.pme_cli.proofs.Answered.{module_done, module_completes, opening_ends}
+use Rattle.pme_cli.proofs.Cases.{free_module_cause}
+use Rattle.pme_cli.proofs.TextAnswers.{text_completes}
 use Rattle.pme_cli.proofs.commands.module.module.Goals as goal
 
+pub returns-clause-causes : goal.returns-clause-causes
+returns-clause-causes g c =
+    c.print_text.ensures.causes is_module_cause (record { fault = refl; memory = refl }) (opening_ends _ c.module_text-text.ensures.causes)
+
 pub returns-clause-answered : goal.returns-clause-answered
-returns-clause-answered g c =
-    let stop : c.stop_of-in-Err.result ≡ stop_of c.in-Err.refusal c.args.name = search rules in
-    rw stop (unopened _ _ _ _ _ c.in-Err.refusal (rw c.as_str.ensures at c.in-Err.ensures.answer))
+returns-clause-answered g c = record {
+  answered = c.print_text.ensures.answered _ _ (rw c.as_str.ensures at c.module_text-text.ensures.answer);
+  done = module_done _ _ _ _ _ _ _ _ (rw c.as_str.ensures at c.module_text-text.ensures.sealed) c.print_text.ensures.printed;
+}
 
 pub returns-clause-complete : goal.returns-clause-complete
 returns-clause-complete g c =
-    let reads : StopsReading (g.F.Files.faults c.args.files.now) (g.F.Files.faults c.open_file.new.files) (Err c.stop_of-in-Err.result) = search rules in
-    let writes : StopsWriting (g.O.Sink.faults c.args.out.now) (g.O.Sink.faults c.args.out.now) (Err c.stop_of-in-Err.result) = search rules in
-    let causes : is_module_outcome (Err c.stop_of-in-Err.result) ≡ true = search rules in
-    completes _ _ _ _ _ _ _ _ _ _ _ (returns-clause-answered g c) reads writes causes
+    let writes : StopsWriting (g.O.Sink.faults c.args.out.now) (g.O.Sink.faults c.print_text.new.out) c.print_text.result = search rules in
+    module_completes _ _ _ _ _ _ (text_completes _ _ _ _ _ _ _ _ _ _ is_module_cause free_module_cause
+        (returns-clause-answered g c).answered (c.print_text.ensures.reads _ _ c.module_text-text.ensures.reads) writes (returns-clause-causes g c))

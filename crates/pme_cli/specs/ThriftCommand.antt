@@ -1,0 +1,80 @@
+-- `thrift`: the struct of the compact protocol at the front of a file is printed as text, and how many bytes follow.
+use Rattle.std.specs.Prelude.{◌≡◌, ℕ, ◌-◌, ◌≤◌, Bool, true, List, [], ◌∷◌, ◌++◌, length, codes, Option, IfSome, IsSomeAnd, Result, Ok, Err, OnOk, IfErr, decimal}
+use Rattle.std.specs.FinMap.{get}
+use Rattle.pme_base.specs.declared.refusal.Cause.{Cause}
+use Rattle.pme_base.specs.declared.refusal.Cause.TheVariants.{BadThrift, WriteFault, OutOfMemory}
+use Rattle.pme_base.specs.declared.refusal.Detail.TheVariants.{Thrift}
+use Rattle.pme_base.specs.declared.refusal.Refusal.{Refusal}
+use Rattle.pme_base.specs.Outside.{Published, followed_by}
+use Rattle.pme_base.specs.Refusals.{refusal_at, plain_refusal}
+use Rattle.pme_base.specs.Steps.{◌>>=◌}
+use Rattle.thrift_compact.specs.declared.kind.TKind.TheVariants as kind
+use Rattle.thrift_compact.specs.declared.refusal.ThriftRefusal.{ThriftRefusal}
+use Rattle.thrift_compact.specs.declared.refusal.ThriftRefusal.TheVariants.{Bad, OutOfMemory as no_memory}
+use Rattle.thrift_compact.specs.Tree.{Tree, struct, Fields}
+use Rattle.thrift_compact.specs.Reading.{Fault, whole_struct}
+use Rattle.thrift_compact.specs.Grammar.{Spells}
+use Rattle.thrift_compact.specs.Text.{shown}
+use Rattle.pme_cli.specs.declared.stop.Stop.{Stop}
+use Rattle.pme_cli.specs.SmallFile.{whole_file, small_limit, small_bytes, is_small_cause}
+use Rattle.pme_cli.specs.TextCommand.{TextAnswered}
+
+-- the text of a tree, and the line that counts the bytes after it
+abbrev pub tree_text : Tree → ℕ → List ℕ
+tree_text tree rest = shown tree ++ (codes "\nrest " ++ (decimal rest ++ 10 ∷ []))
+
+-- a fault, by its offset from the front of the bytes
+abbrev pub bad_thrift : List ℕ → Fault → Refusal
+bad_thrift bytes fault = refusal_at BadThrift whole_file (length bytes - fault.1) (Thrift fault.0)
+
+abbrev pub text_of_reading : List ℕ → Result (Fields × List ℕ) Fault → Result (List ℕ) Refusal
+text_of_reading bytes (Ok read) = Ok (tree_text (struct read.0) (length read.1))
+text_of_reading bytes (Err fault) = Err (bad_thrift bytes fault)
+
+-- the text of the struct at the front of these bytes
+abbrev pub struct_text : List ℕ → Result (List ℕ) Refusal
+struct_text bytes = text_of_reading bytes (whole_struct bytes)
+
+-- what the command prints of a file
+abbrev pub thrift_text : Option (List ℕ) → Result (List ℕ) Refusal
+thrift_text file = small_bytes file >>= struct_text
+
+-- what a refusal of the reading is refused as
+abbrev pub refused_thrift : ThriftRefusal → Refusal
+refused_thrift (Bad at why) = refusal_at BadThrift whole_file at (Thrift why)
+refused_thrift no_memory = plain_refusal OutOfMemory
+
+-- the causes by which making the text can end, and the command
+abbrev pub is_text_cause : Cause → Bool
+is_text_cause BadThrift = true
+is_text_cause cause = is_small_cause cause
+
+abbrev pub is_thrift_cause : Cause → Bool
+is_thrift_cause WriteFault = true
+is_thrift_cause cause = is_text_cause cause
+
+-- a front of the bytes spells a tree, and the rest comes after it
+pub record Holds (bytes : List ℕ) : Type 0 where
+  pub tree : Tree
+  pub front : List ℕ
+  pub rest : List ℕ
+  pub spelled : Spells 32 kind.Struct tree front
+  pub parts : bytes ≡ front ++ rest
+
+-- a front of the file spells a tree, and its text was printed
+pub record ThriftDone (file before after : Option (List ℕ)) : Type 0 where
+  pub bytes : List ℕ
+  pub there : IsSomeAnd file (λ b. b ≡ bytes)
+  pub holds : Holds bytes
+  pub printed : after ≡ followed_by (tree_text holds.tree (length holds.rest)) before
+
+-- what the command says of the files that are told, and of what was printed before and after
+pub record ThriftAnswered (name : List ℕ) (told : Option Published) (before after : Option (List ℕ)) (outcome : Result Unit Stop) : Type 0 where
+  pub answered : TextAnswered name (λ files. thrift_text (get files name)) told before after outcome
+  pub done : OnOk outcome (IfSome told (λ files. ThriftDone (get files name) before after))
+
+-- a small file that is told and begins with a struct is printed, where no fault comes from outside and memory suffices
+abbrev pub ThriftCompletes : List ℕ → Option Published → Type 0 → Result Unit Stop → Type 0
+ThriftCompletes name told Fault outcome =
+    IfSome told (λ files. IsSomeAnd (get files name) (λ bytes. (length bytes ≤ small_limit) × Holds bytes) → ¬ Fault
+    → IfErr outcome (λ stop. stop.refusal.cause ≡ OutOfMemory))

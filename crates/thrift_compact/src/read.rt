@@ -1,0 +1,144 @@
+// Reading a tree: one function for a value, one for a value in a list or a map, and one for each part that holds others.
+ghost use Rattle.std.specs.Prelude.{◌≡◌, ℕ, ◌<◌, ◌≤◌, List, ◌++◌, length, take, OnOk, IfOk};
+ghost use Rattle.thrift_compact.specs.declared.kind.TKind.TheVariants as kinds;
+ghost use Rattle.thrift_compact.specs.Grammar.{Spells};
+ghost use Rattle.thrift_compact.specs.Spelled.{AreBytes};
+ghost use Rattle.thrift_compact.specs.Tree.{Tree};
+ghost use Rattle.thrift_compact.specs.Answers.{Gives};
+ghost use Rattle.thrift_compact.specs.Reading.{element, nest, value as value_at};
+ghost use Rattle.thrift_compact.specs.View.{view, list_view, map_view, struct_view};
+ghost use Rattle.thrift_compact.specs.Whole.{ReadsTree, IsReadAs};
+
+use crate::cursor::{Cursor, Stop};
+use crate::heads::{field_head, list_head, map_kinds};
+use crate::ids::Ids;
+use crate::kind::TKind;
+use crate::refusal::ThriftRefusal;
+use crate::tree::{TFields, TList, TMap, TVal};
+use pme_base::Bytes;
+use std::alloc::Global;
+
+/// The structs, lists, sets and maps that may be open, one in the other.
+const ROOM: u32 = 32;
+
+/// Reads the struct at the front of `bytes`: its tree, and how many bytes it takes. A fault is told with its offset
+/// from the front of `bytes`.
+pub fn read_tree(alloc: Global, bytes: &[u8]) -> Result<(TVal, usize), ThriftRefusal>
+    ensures exact { ReadsTree bytes.now result }
+    // What is answered is spelled at the front of the bytes, and what is spelled there is answered.
+    ensures found { IfOk result (λ read. Spells 32 kinds.Struct (view read.0) (take read.1 bytes.now)) }
+    ensures only { (tree : Tree) (front rest : List ℕ) → Spells 32 kinds.Struct tree front → bytes.now ≡ front ++ rest → IsReadAs tree front result }
+    ensures within { IfOk result (λ read. read.1 ≤ length bytes.now) }
+{
+    read_struct(alloc, bytes)
+}
+
+fn read_struct(alloc: Global, bytes: &[u8]) -> Result<(TVal, usize), ThriftRefusal>
+    ensures exact { ReadsTree bytes.now result }
+    ensures bytes { AreBytes bytes.now }
+    ensures within { IfOk result (λ read. read.1 ≤ length bytes.now) }
+{
+    let mut cursor = Cursor::new(bytes);
+    match read_fields(alloc, &mut cursor, ROOM) {
+        Ok(fields) => Ok((
+            TVal::Struct(fields),
+            bytes.len().saturating_sub(cursor.left()),
+        )),
+        Err(stop) => Err(stop.refusal(bytes.len())),
+    }
+}
+
+/// A value of a kind; `room` more structs, lists, sets and maps may be opened in one another.
+#[cycle(read)]
+fn read_value(alloc: Global, cursor: &mut Cursor<'_>, room: u32, kind: TKind) -> Result<TVal, Stop>
+    ensures value { Gives view result cursor.new (value_at room kind cursor.old) }
+    ensures shorter { OnOk result (length cursor.new ≤ length cursor.old) }
+{
+    match kind {
+        TKind::True => Ok(TVal::Bool(true)),
+        TKind::False => Ok(TVal::Bool(false)),
+        TKind::I8 => Ok(TVal::I8(cursor.int8()?)),
+        TKind::I16 => Ok(TVal::I16(cursor.int16()?)),
+        TKind::I32 => Ok(TVal::I32(cursor.int32()?)),
+        TKind::I64 => Ok(TVal::I64(cursor.int64()?)),
+        TKind::Double => Ok(TVal::Double(cursor.double()?)),
+        TKind::Binary => {
+            let bytes = cursor.binary()?;
+            Ok(TVal::Binary(Bytes::copy_of(alloc, bytes)?))
+        }
+        TKind::List => Ok(TVal::List(read_list(alloc, cursor, room)?)),
+        TKind::Set => Ok(TVal::Set(read_list(alloc, cursor, room)?)),
+        TKind::Map => Ok(TVal::Map(read_map(alloc, cursor, room)?)),
+        TKind::Struct => Ok(TVal::Struct(read_fields(alloc, cursor, room)?)),
+    }
+}
+
+/// An element, a key or a value of a map: there a boolean has a byte of its own.
+#[cycle(read)]
+fn read_element(
+    alloc: Global,
+    cursor: &mut Cursor<'_>,
+    room: u32,
+    kind: TKind,
+) -> Result<TVal, Stop>
+    ensures value { Gives view result cursor.new (element (value_at room) kind cursor.old) }
+    ensures shorter { OnOk result (length cursor.new ≤ length cursor.old) }
+{
+    match kind {
+        TKind::True => Ok(TVal::Bool(cursor.truth()?)),
+        TKind::False => Ok(TVal::Bool(cursor.truth()?)),
+        _ => read_value(alloc, cursor, room, kind),
+    }
+}
+
+/// A list or a set.
+#[cycle(read)]
+fn read_list(alloc: Global, cursor: &mut Cursor<'_>, room: u32) -> Result<TList, Stop>
+    ensures value { Gives list_view result cursor.new ((nest room).trees cursor.old) }
+    ensures shorter { OnOk result (length cursor.new ≤ length cursor.old) }
+{
+    let inner = cursor.enter(room)?;
+    let (kind, count) = list_head(cursor)?;
+    let mut list = TList::new(alloc);
+    for _turn in 0..count {
+        let item = read_element(alloc, cursor, inner, kind)?;
+        list.push(item)?;
+    }
+    Ok(list)
+}
+
+#[cycle(read)]
+fn read_map(alloc: Global, cursor: &mut Cursor<'_>, room: u32) -> Result<TMap, Stop>
+    ensures value { Gives map_view result cursor.new ((nest room).pairs cursor.old) }
+    ensures shorter { OnOk result (length cursor.new ≤ length cursor.old) }
+{
+    let inner = cursor.enter(room)?;
+    let count = cursor.size()?;
+    let mut map = TMap::new(alloc);
+    if count == 0 {
+        return Ok(map);
+    }
+    let (key_kind, value_kind) = map_kinds(cursor)?;
+    for _turn in 0..count {
+        let key = read_element(alloc, cursor, inner, key_kind)?;
+        let value = read_element(alloc, cursor, inner, value_kind)?;
+        map.push((key, value))?;
+    }
+    Ok(map)
+}
+
+/// The fields of a struct, up to its stop byte.
+#[cycle(read)]
+fn read_fields(alloc: Global, cursor: &mut Cursor<'_>, room: u32) -> Result<TFields, Stop>
+    ensures value { Gives struct_view result cursor.new ((nest room).fields cursor.old) }
+    ensures shorter { OnOk result (length cursor.new ≤ length cursor.old) }
+{
+    let inner = cursor.enter(room)?;
+    let mut ids = Ids::new(alloc);
+    let mut fields = TFields::new(alloc);
+    while let Some((id, kind)) = field_head(cursor, &mut ids)? {
+        let value = read_value(alloc, cursor, inner, kind)?;
+        fields.push((id, value))?;
+    }
+    Ok(fields)
+}

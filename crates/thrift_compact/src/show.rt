@@ -1,0 +1,157 @@
+ghost use Rattle.std.specs.Prelude.{◌≡◌, ◌∷◌, [], ◌++◌, OnOk, OnErr};
+ghost use Rattle.std.specs.Fmt.{signed_decimal};
+ghost use Rattle.std.specs.Io.{StartsWith};
+ghost use Rattle.hex.specs.Hex.{encode_lower};
+ghost use Rattle.thrift_compact.specs.Text as text;
+ghost use Rattle.thrift_compact.specs.View.{view, list_view, map_view, struct_view};
+
+use crate::tree::{TFields, TList, TMap, TVal};
+use itoa::Buffer;
+use pme_base::{Bytes, OutOfMemory};
+
+/// Adds the text of a tree, without a line feed. A struct is `{1: value, 2: value}` in the order of its bytes, a
+/// list `[value, value]`, a set `<value, value>`, a map `(key=>value, key=>value)`. Numbers are decimal, booleans
+/// `true` and `false`; a binary is `x` and its bytes in hex, a double `d` and its 8 bytes in hex.
+/// Where memory is refused, some of the text may stand behind the old bytes.
+#[cycle(show)]
+pub fn show_tree(value: &TVal, into: &mut Bytes) -> Result<(), OutOfMemory>
+    ensures ok { OnOk result (into.new ≡ into.old ++ text.shown (view value.now)) }
+    ensures kept { OnErr result (StartsWith into.new into.old) }
+{
+    match value {
+        TVal::Bool(truth) => push_truth(into, *truth),
+        TVal::I8(number) => push_number(into, i64::from(*number)),
+        TVal::I16(number) => push_number(into, i64::from(*number)),
+        TVal::I32(number) => push_number(into, i64::from(*number)),
+        TVal::I64(number) => push_number(into, *number),
+        TVal::Double(bytes) => push_hex(into, b'd', bytes),
+        TVal::Binary(bytes) => push_hex(into, b'x', bytes.as_slice()),
+        TVal::List(list) => show_list(list, b'[', b']', into),
+        TVal::Set(set) => show_list(set, b'<', b'>', into),
+        TVal::Map(map) => show_map(map, into),
+        TVal::Struct(fields) => show_struct(fields, into),
+    }
+}
+
+#[cycle(show)]
+fn show_list(list: &TList, opening: u8, closing: u8, into: &mut Bytes) -> Result<(), OutOfMemory>
+    ensures ok { OnOk result (into.new ≡ into.old ++ opening ∷ (text.joined (text.item_texts (list_view list.now)) ++ closing ∷ [])) }
+    ensures kept { OnErr result (StartsWith into.new into.old) }
+{
+    into.push(opening)?;
+    let mut first = true;
+    for item in list.items.as_slice() {
+        show_item(item, first, into)?;
+        first = false;
+    }
+    into.push(closing)
+}
+
+#[cycle(show)]
+fn show_item(item: &TVal, first: bool, into: &mut Bytes) -> Result<(), OutOfMemory>
+    ensures ok { OnOk result (into.new ≡ into.old ++ (text.comma first ++ text.shown (view item.now))) }
+    ensures kept { OnErr result (StartsWith into.new into.old) }
+{
+    push_comma(into, first)?;
+    show_tree(item, into)
+}
+
+#[cycle(show)]
+fn show_map(map: &TMap, into: &mut Bytes) -> Result<(), OutOfMemory>
+    ensures ok { OnOk result (into.new ≡ into.old ++ 40 ∷ (text.joined (text.pair_texts (map_view map.now)) ++ 41 ∷ [])) }
+    ensures kept { OnErr result (StartsWith into.new into.old) }
+{
+    into.push(b'(')?;
+    let mut first = true;
+    for pair in map.pairs.as_slice() {
+        show_pair(pair, first, into)?;
+        first = false;
+    }
+    into.push(b')')
+}
+
+#[cycle(show)]
+fn show_pair(pair: &(TVal, TVal), first: bool, into: &mut Bytes) -> Result<(), OutOfMemory>
+    ensures ok { OnOk result (into.new ≡ into.old ++ (text.comma first ++ text.pair_text (text.shown (view pair.now.0)) (text.shown (view pair.now.1)))) }
+    ensures kept { OnErr result (StartsWith into.new into.old) }
+{
+    push_comma(into, first)?;
+    show_tree(&pair.0, into)?;
+    into.extend(b"=>")?;
+    show_tree(&pair.1, into)
+}
+
+#[cycle(show)]
+fn show_struct(fields: &TFields, into: &mut Bytes) -> Result<(), OutOfMemory>
+    ensures ok { OnOk result (into.new ≡ into.old ++ 123 ∷ (text.joined (text.field_texts (struct_view fields.now)) ++ 125 ∷ [])) }
+    ensures kept { OnErr result (StartsWith into.new into.old) }
+{
+    into.push(b'{')?;
+    let mut first = true;
+    for field in fields.fields.as_slice() {
+        show_field(field.0, &field.1, first, into)?;
+        first = false;
+    }
+    into.push(b'}')
+}
+
+#[cycle(show)]
+fn show_field(id: i16, value: &TVal, first: bool, into: &mut Bytes) -> Result<(), OutOfMemory>
+    ensures ok { OnOk result (into.new ≡ into.old ++ (text.comma first ++ text.field_text id (text.shown (view value.now)))) }
+    ensures kept { OnErr result (StartsWith into.new into.old) }
+{
+    push_comma(into, first)?;
+    push_number(into, i64::from(id))?;
+    into.extend(b": ")?;
+    show_tree(value, into)
+}
+
+/// A comma and a blank, but in front of the first of several.
+fn push_comma(into: &mut Bytes, first: bool) -> Result<(), OutOfMemory>
+    ensures ok { OnOk result (into.new ≡ into.old ++ text.comma first) }
+    ensures kept { OnErr result (into.new ≡ into.old) }
+{
+    if first { Ok(()) } else { into.extend(b", ") }
+}
+
+fn push_truth(into: &mut Bytes, truth: bool) -> Result<(), OutOfMemory>
+    ensures ok { OnOk result (into.new ≡ into.old ++ text.truth_text truth) }
+    ensures kept { OnErr result (into.new ≡ into.old) }
+{
+    if truth {
+        into.extend(b"true")
+    } else {
+        into.extend(b"false")
+    }
+}
+
+fn push_number(into: &mut Bytes, number: i64) -> Result<(), OutOfMemory>
+    ensures ok { OnOk result (into.new ≡ into.old ++ signed_decimal number) }
+    ensures kept { OnErr result (into.new ≡ into.old) }
+{
+    let mut buffer = Buffer::new();
+    into.extend(buffer.format(number).as_bytes())
+}
+
+/// A letter, and bytes in lower-case hex.
+#[tactic(auto, using(std::proofs::Transfers::starts_with_trans), unfolding(hex::specs::Hex::encode_with))]
+fn push_hex(into: &mut Bytes, letter: u8, bytes: &[u8]) -> Result<(), OutOfMemory>
+    ensures ok { OnOk result (into.new ≡ into.old ++ letter ∷ encode_lower bytes.now) }
+    ensures kept { OnErr result (StartsWith into.new into.old) }
+{
+    into.push(letter)?;
+    for byte in bytes {
+        push_hex_byte(into, *byte)?;
+    }
+    Ok(())
+}
+
+fn push_hex_byte(into: &mut Bytes, byte: u8) -> Result<(), OutOfMemory>
+    ensures ok { OnOk result (into.new ≡ into.old ++ encode_lower (byte ∷ [])) }
+    ensures kept { OnErr result (into.new ≡ into.old) }
+{
+    let mut digits = [0u8; 2];
+    // Two digits are the room that one byte takes, so this never fails.
+    let _ = hex::encode_to_slice(&[byte], &mut digits);
+    into.extend(&digits)
+}
