@@ -15,7 +15,7 @@ bytes_again n a r e =
     let t : nat_lt (length (a ++ r)) n ≡ false = not_below (length (a ++ r)) n (omega (arith, length-append a r)) in
     rw (t, take_at a r n e, drop_at a r n e) refl
 
-element_again : (room : ℕ) (k : TKind) (t : Tree) (a r : List ℕ) (other : Type 0) → Within k t a other
+pub element_again : (room : ℕ) (k : TKind) (t : Tree) (a r : List ℕ) (other : Type 0) → Within k t a other
     → (other → value room k (a ++ r) ≡ Ok (t, r)) → element (value room) k (a ++ r) ≡ Ok (t, r)
 element_again room kind.True (truth b) a r other w again = rw (truth_again b a r w) refl
 element_again room kind.True t a r other w again = absurd w

@@ -5,7 +5,8 @@ use Rattle.thrift_compact.specs.declared.kind.TKind.{TKind}
 use Rattle.thrift_compact.specs.declared.kind.TKind.TheVariants as kind
 use Rattle.thrift_compact.specs.Tree.{Tree, truth, int8, int16, int32, int64, double, binary, list, set, map, struct, Trees, no_trees, tree, Pairs, no_pairs, pair, Fields, no_fields, field, count, pair_count}
 use Rattle.thrift_compact.specs.Reading.{Read, bytes_at, int8_at, int16_at, int32_at, int64_at, binary_at, truth_at, list_head, size_at, map_kinds, field_head, element, elements, entries, trees_at, pairs_from, pairs_at, after_head, fields, too_deep, as_tree, nest, value}
-use Rattle.thrift_compact.specs.Grammar.{IsSize, IsNumber, IsTruthByte, IsListHead, IsHeadedList, IsMapBody, IsMap, IsFieldHead, Within, Spells, AllSpell, PairsSpell, SpellsFields}
+use Rattle.thrift_compact.specs.Grammar.{IsSize, IsNumber, IsTruthByte, IsListHead, IsHeadedList, IsMapBody, IsMap, IsFieldHead, Spells, AllSpell, PairsSpell, SpellsFields}
+use Rattle.thrift_compact.specs.Faults.{IsElement}
 use Rattle.thrift_compact.specs.Spelled.{AreBytes}
 use Rattle.thrift_compact.proofs.Steps.{bind_ok, after_ok}
 use Rattle.thrift_compact.proofs.Took.{Took, took_ok, took_nothing, took_as, took_then, took_thrice}
@@ -16,9 +17,6 @@ use Rattle.thrift_compact.proofs.TookHeads.{list_head_took, KindsOfMap, map_kind
 abbrev pub Sound : ℕ → Type 0
 Sound room = (k : TKind) (bs : List ℕ) (x : Tree × List ℕ) → AreBytes bs → value room k bs ≡ Ok x → Took (Spells room k x.0) bs x.1
 
-abbrev IsElement : ℕ → TKind → Tree → List ℕ → Type 0
-IsElement room k t front = Within k t front (Spells room k t front)
-
 truth_element : (room : ℕ) (k : TKind) (bs : List ℕ) (x : Tree × List ℕ) → ((b : Bool) (front : List ℕ) → IsTruthByte b front → IsElement room k (truth b) front)
     → AreBytes bs → as_tree truth truth_at bs ≡ Ok x → Took (IsElement room k x.0) bs x.1
 truth_element room k bs x is each e =
@@ -26,16 +24,16 @@ truth_element room k bs x is each e =
     took_ok (IsElement room k) bs (truth b.0, b.1) x same
     (took_as (IsTruthByte b.0) (IsElement room k (truth b.0)) bs b.1 (λ front p. is b.0 front p) (truth_took bs b each read))
 
-element_took : (room : ℕ) → Sound room → (k : TKind) (bs : List ℕ) (x : Tree × List ℕ) → AreBytes bs → element (value room) k bs ≡ Ok x → Took (IsElement room k x.0) bs x.1
+pub element_took : (room : ℕ) → Sound room → (k : TKind) (bs : List ℕ) (x : Tree × List ℕ) → AreBytes bs → element (value room) k bs ≡ Ok x → Took (IsElement room k x.0) bs x.1
 element_took room sound kind.True bs x each e = truth_element room kind.True bs x (λ b front p. p) each e
 element_took room sound kind.False bs x each e = truth_element room kind.False bs x (λ b front p. p) each e
 element_took room sound k bs x each e = sound k bs x each e
 
 -- the elements of a list, and their count
-abbrev AreElements : ℕ → TKind → ℕ → Trees → List ℕ → Type 0
+abbrev pub AreElements : ℕ → TKind → ℕ → Trees → List ℕ → Type 0
 AreElements room k n ts front = AllSpell room k ts front × (count ts ≡ n)
 
-elements_took : (n room : ℕ) → Sound room → (k : TKind) (bs : List ℕ) (x : Trees × List ℕ) → AreBytes bs → elements (element (value room) k) n bs ≡ Ok x → Took (AreElements room k n x.0) bs x.1
+pub elements_took : (n room : ℕ) → Sound room → (k : TKind) (bs : List ℕ) (x : Trees × List ℕ) → AreBytes bs → elements (element (value room) k) n bs ≡ Ok x → Took (AreElements room k n x.0) bs x.1
 elements_took zero room sound k bs x each e = took_ok (AreElements room k zero) bs (no_trees, bs) x e (took_nothing (AreElements room k zero no_trees) bs each (refl, refl))
 elements_took (suc n) room sound k bs x each e =
     let (t, read, more) = bind_ok (element (value room) k bs) (λ t. elements (element (value room) k) n t.1 >>= λ ts. Ok (tree t.0 ts.0, ts.1)) x e in
@@ -57,10 +55,10 @@ trees_took room sound bs x each e =
     head (elements_took h.0.1 room sound h.0.0 h.1 x head.rest more)
 
 -- the pairs of a map, and their count
-abbrev ArePairs : ℕ → TKind → TKind → ℕ → Pairs → List ℕ → Type 0
+abbrev pub ArePairs : ℕ → TKind → TKind → ℕ → Pairs → List ℕ → Type 0
 ArePairs room key_kind value_kind n ps front = PairsSpell room key_kind value_kind ps front × (pair_count ps ≡ n)
 
-entries_took : (n room : ℕ) → Sound room → (key_kind value_kind : TKind) (bs : List ℕ) (x : Pairs × List ℕ) → AreBytes bs
+pub entries_took : (n room : ℕ) → Sound room → (key_kind value_kind : TKind) (bs : List ℕ) (x : Pairs × List ℕ) → AreBytes bs
     → entries (element (value room) key_kind) (element (value room) value_kind) n bs ≡ Ok x → Took (ArePairs room key_kind value_kind n x.0) bs x.1
 entries_took zero room sound key_kind value_kind bs x each e =
     took_ok (ArePairs room key_kind value_kind zero) bs (no_pairs, bs) x e (took_nothing (ArePairs room key_kind value_kind zero no_pairs) bs each (refl, refl))

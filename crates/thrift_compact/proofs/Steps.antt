@@ -12,17 +12,21 @@ pub after_ok : {S T E : Type 0} (G : Type 0) (r : Result S E) (f : S → Result 
 after_ok G (Ok s) f t e more = more s refl e
 after_ok G (Err x) f t e more = cc
 
+-- the same of a step that failed, or after which the next one failed
+pub after_err : {S T E : Type 0} (G : Type 0) (r : Result S E) (f : S → Result T E) (d : E) → (r >>= f) ≡ Err d → (r ≡ Err d → G) → ((s : S) → r ≡ Ok s → f s ≡ Err d → G) → G
+after_err G (Ok s) f d e here later = later s refl e
+after_err G (Err x) f d e here later = here cc
+
+pub one_refusal : {S E : Type 0} (r : Result S E) (x y : E) → r ≡ Err x → r ≡ Err y → y ≡ x
+one_refusal r x y e f = cc
+
+pub cond_err : {T E : Type 0} (b : Bool) (x : T) (y d : E) → (if b then Ok x else Err y) ≡ Err d → (b ≡ false) × (d ≡ y)
+cond_err true x y d e = cc
+cond_err false x y d e = (refl, cc)
+
 -- a reading has one answer
 pub one_answer : {S E : Type 0} (r : Result S E) (x y : S) → r ≡ Ok x → r ≡ Ok y → x ≡ y
 one_answer r x y e f = cc
-
-pub when_true : {X : Type 0} (b : Bool) (x y : X) → b ≡ true → (if b then x else y) ≡ x
-when_true true x y e = refl
-when_true false x y e = cc
-
-pub when_false : {X : Type 0} (b : Bool) (x y : X) → b ≡ false → (if b then x else y) ≡ y
-when_false true x y e = cc
-when_false false x y e = refl
 
 pub below : (a b : ℕ) → a < b → nat_lt a b ≡ true
 below a b h = grind (arith, nat_tests)

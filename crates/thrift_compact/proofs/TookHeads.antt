@@ -6,7 +6,7 @@ use Rattle.thrift_compact.specs.declared.kind.TKind.{TKind}
 use Rattle.thrift_compact.specs.declared.kind.TKind.TheVariants as kind
 use Rattle.thrift_compact.specs.Kinds.{code, of_code}
 use Rattle.thrift_compact.specs.Reading.{Fault, byte_at, known, list_head, list_size, size_at, map_kinds, field_head, head_from, id_at, int16_at, fresh, last, small_id, is_among}
-use Rattle.thrift_compact.specs.Grammar.{IsSize, IsNumber, IsListHead, IsFieldHead}
+use Rattle.thrift_compact.specs.Grammar.{IsSize, IsNumber, IsListHead, NamesField, IsFieldHead}
 use Rattle.thrift_compact.specs.Spelled.{AreBytes}
 use Rattle.thrift_compact.proofs.Steps.{bind_ok, after_ok, cond_ok, chosen, equal_if, other_if}
 use Rattle.thrift_compact.proofs.Took.{Took, took_ok, took_nothing, took_as, took_then, IsByte, byte_took}
@@ -30,10 +30,10 @@ known_is left (Some j) k e = let same : j ≡ k = cc in ap Some same
 known_is left None k e = cc
 
 -- the kind in the low half of a byte
-low_is : (left b : ℕ) (k : TKind) → known left (of_code (b % 16)) ≡ Ok k → b ≡ 16 * (b / 16) + code k
+pub low_is : (left b : ℕ) (k : TKind) → known left (of_code (b % 16)) ≡ Ok k → b ≡ 16 * (b / 16) + code k
 low_is left b k e = omega (arith, code_is (b % 16) k (known_is left (of_code (b % 16)) k e))
 
-high_is : (left b : ℕ) (k : TKind) → known left (of_code (b / 16)) ≡ Ok k → b / 16 ≡ code k
+pub high_is : (left b : ℕ) (k : TKind) → known left (of_code (b / 16)) ≡ Ok k → b / 16 ≡ code k
 high_is left b k e = code_is (b / 16) k (known_is left (of_code (b / 16)) k e)
 
 -- the size of a list by the high half n of its head, and what of it stands after the head
@@ -83,11 +83,11 @@ map_kinds_took bs x each e =
     (took_as (IsByte b.0) (KindsOfMap (key, value)) bs b.1 (λ front p. p.0 ∙ ap (λ c. c ∷ []) both) (byte_took bs b each read)))))
 
 -- the id of a field by the high half n of its head, and what of it stands after the head
-abbrev IsIdFrom : List ℤ → ℕ → ℤ → List ℕ → Type 0
+abbrev pub IsIdFrom : List ℤ → ℕ → ℤ → List ℕ → Type 0
 IsIdFrom ids n id number =
     ((n ≡ 0) × IsNumber 65536 id number) ⊎ ((n ≡ 0 → ⊥) × (id ≡ last ids +ℤ pos n) × (small_id id ≡ true) × (number ≡ []))
 
-id_took : (ids : List ℤ) (left n : ℕ) (bs : List ℕ) (x : ℤ × List ℕ) → AreBytes bs → id_at (last ids) left n bs ≡ Ok x → Took (IsIdFrom ids n x.0) bs x.1
+pub id_took : (ids : List ℤ) (left n : ℕ) (bs : List ℕ) (x : ℤ × List ℕ) → AreBytes bs → id_at (last ids) left n bs ≡ Ok x → Took (IsIdFrom ids n x.0) bs x.1
 id_took ids left n bs x each e =
     elim (chosen (n == 0) (int16_at bs) (if small_id (last ids +ℤ pos n) then Ok (last ids +ℤ pos n, bs) else Err (Range, left)) (Ok x) e) [
       | inl w ↦ took_as (IsNumber 65536 x.0) (IsIdFrom ids n x.0) bs x.1 (λ front s. inl (equal_if n 0 w.0, s)) (number_took 65536 bs x each w.1)
@@ -97,25 +97,25 @@ id_took ids left n bs x each e =
           (took_nothing (IsIdFrom ids n (last ids +ℤ pos n)) bs each (inr (other_if n 0 w.0, refl, small, refl)))
     ]
 
-is_field_head : (ids : List ℤ) (id : ℤ) (k : TKind) (b : ℕ) (number : List ℕ) → b < 256 → b ≡ 16 * (b / 16) + code k → is_among id ids ≡ false
-    → IsIdFrom ids (b / 16) id number → IsFieldHead ids id k (b ∷ number)
-is_field_head ids id k b number small b_is new (inl s) =
+pub names_field : (ids : List ℤ) (id : ℤ) (k : TKind) (b : ℕ) (number : List ℕ) → b < 256 → b ≡ 16 * (b / 16) + code k
+    → IsIdFrom ids (b / 16) id number → NamesField (last ids) id k (b ∷ number)
+names_field ids id k b number small b_is (inl s) =
     let e : b ≡ code k = omega (arith, s.0) in
-    (new, inr (number, s.1, ap (λ c. c ∷ number) e))
-is_field_head ids id k b number small b_is new (inr s) =
+    inr (number, s.1, ap (λ c. c ∷ number) e)
+names_field ids id k b number small b_is (inr s) =
     let most : b / 16 < 16 = omega arith in
     let least : 0 < b / 16 = omega (arith, s.0) in
-    (new, inl (b / 16, least, most, s.1, s.2, λ i. b_is i ∷ s.3 i))
+    inl (b / 16, least, most, s.1, s.2, λ i. b_is i ∷ s.3 i)
 
 -- the head of a field, or the stop byte
 abbrev pub IsHead : List ℤ → Option (ℤ × TKind) → List ℕ → Type 0
 IsHead ids None front = front ≡ 0 ∷ []
 IsHead ids (Some h) front = IsFieldHead ids h.0 h.1 front
 
-abbrev with_id : List ℤ → ℕ → TKind → ℤ × List ℕ → Result (Option (ℤ × TKind) × List ℕ) Fault
+abbrev pub with_id : List ℤ → ℕ → TKind → ℤ × List ℕ → Result (Option (ℤ × TKind) × List ℕ) Fault
 with_id ids left k id = fresh left id.0 ids >>= λ new. Ok (Some (new, k), id.1)
 
-abbrev with_kind : List ℤ → ℕ → ℕ → List ℕ → TKind → Result (Option (ℤ × TKind) × List ℕ) Fault
+abbrev pub with_kind : List ℤ → ℕ → ℕ → List ℕ → TKind → Result (Option (ℤ × TKind) × List ℕ) Fault
 with_kind ids left b bs k = id_at (last ids) left (b / 16) bs >>= with_id ids left k
 
 fresh_is : (left : ℕ) (id new : ℤ) (ids : List ℤ) → fresh left id ids ≡ Ok new → (is_among id ids ≡ false) × (id ≡ new)
@@ -133,7 +133,7 @@ field_took ids b bs r x byte e =
     took_ok (IsHead ids) bs (Some (new, k), id.1) x same
     (took_then (IsByte b) (IsIdFrom ids (b / 16) id.0) (IsFieldHead ids new k) bs r id.1
     (λ front number p s. subst (λ (f : List ℕ). IsFieldHead ids new k (f ++ number)) (sym p.0)
-    (subst (λ (z : ℤ). IsFieldHead ids z k (b ∷ number)) id_is (is_field_head ids id.0 k b number p.1 (low_is (length bs) b k named) absent s)))
+    (subst (λ (z : ℤ). IsFieldHead ids z k (b ∷ number)) id_is (absent, names_field ids id.0 k b number p.1 (low_is (length bs) b k named) s)))
     byte (id_took ids (length bs) (b / 16) r id byte.rest id_read))
 
 pub field_head_took : (ids : List ℤ) (bs : List ℕ) (x : Option (ℤ × TKind) × List ℕ) → AreBytes bs → field_head ids bs ≡ Ok x → Took (IsHead ids x.0) bs x.1

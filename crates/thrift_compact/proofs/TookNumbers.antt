@@ -8,20 +8,22 @@ use Rattle.thrift_compact.specs.Grammar.{IsVarint, IsBelow, IsSize, IsNumber, Is
 use Rattle.thrift_compact.specs.Spelled.{AreBytes}
 use Rattle.thrift_compact.proofs.Steps.{bind_ok, cond_ok, chosen, below_if, not_below_if}
 use Rattle.thrift_compact.proofs.Took.{Took, took_ok, took_as, took_then, IsByte, byte_took}
+use Rattle.thrift_compact.proofs.Numbers.{room_for}
 
 pub record IsShort (more n : ℕ) (bs : List ℕ) : Type 0 where
   pub spelled : IsVarint bs n
   pub short : length bs ≤ suc more
+  pub below : n < room_for more
 
 varint_more : (b n high : ℕ) (bs : List ℕ) → 128 ≤ b → b < 256 → n + 128 ≡ b + 128 * high → IsVarint bs high → IsVarint (b ∷ bs) n
 varint_more b n high [] least most sum v = absurd v
 varint_more b n high (c ∷ bs) least most sum v = (least, most, high, sum, v)
 
-last_byte : (more b : ℕ) (bs : List ℕ) → b < 128 → AreBytes (b ∷ bs) → Took (IsShort more b) (b ∷ bs) bs
-last_byte more b bs small each = record {
+last_byte : (more b : ℕ) (bs : List ℕ) → b < 128 → b < room_for more → AreBytes (b ∷ bs) → Took (IsShort more b) (b ∷ bs) bs
+last_byte more b bs small inside each = record {
   front = b ∷ [];
   parts = refl;
-  is = record { spelled = (small, refl); short = omega arith };
+  is = record { spelled = (small, refl); short = omega arith; below = inside };
   rest = λ i. each (suc i);
 }
 
@@ -29,20 +31,27 @@ first_byte : (more b high : ℕ) (bs r : List ℕ) → 128 ≤ b → b < 256 →
 first_byte more b high bs r least most t = record {
   front = b ∷ t.front;
   parts = ap (λ more. b ∷ more) t.parts;
-  is = record { spelled = varint_more b (b - 128 + 128 * high) high t.front least most (omega arith) t.is.spelled; short = omega (arith, t.is.short) };
+  is = record { spelled = varint_more b (b - 128 + 128 * high) high t.front least most (omega arith) t.is.spelled; short = omega (arith, t.is.short); below = omega (arith, t.is.below) };
   rest = t.rest;
 }
 
-varint_took : (bs : List ℕ) (start more : ℕ) (x : ℕ × List ℕ) → AreBytes bs → varint_within start more bs ≡ Ok x → Took (IsShort more x.0) bs x.1
+some_room : (more : ℕ) → 2 ≤ room_for more
+some_room zero = omega arith
+some_room (suc more) = omega (arith, some_room more)
+
+small_byte : (more b : ℕ) (bs : List ℕ) → b < 128 → AreBytes (b ∷ bs) → Took (IsShort (suc more) b) (b ∷ bs) bs
+small_byte more b bs small each = last_byte (suc more) b bs small (omega (arith, some_room more)) each
+
+pub varint_took : (bs : List ℕ) (start more : ℕ) (x : ℕ × List ℕ) → AreBytes bs → varint_within start more bs ≡ Ok x → Took (IsShort more x.0) bs x.1
 unfolding varint_within
 varint_took [] start more x each e = cc
 varint_took (b ∷ bs) start zero x each e =
     let (small, same) = cond_ok (nat_lt b 2) (b, bs) x (Varint, start) e in
     let least : b < 2 = below_if b 2 small in
-    took_ok (IsShort zero) (b ∷ bs) (b, bs) x (ap Ok same) (last_byte zero b bs (omega arith) each)
+    took_ok (IsShort zero) (b ∷ bs) (b, bs) x (ap Ok same) (last_byte zero b bs (omega arith) least each)
 varint_took (b ∷ bs) start (suc more) x each e =
     elim (chosen (nat_lt b 128) (Ok (b, bs)) (varint_within start more bs >>= λ high. Ok (b - 128 + 128 * high.0, high.1)) (Ok x) e) [
-      | inl w ↦ took_ok (IsShort (suc more)) (b ∷ bs) (b, bs) x w.1 (last_byte (suc more) b bs (below_if b 128 w.0) each)
+      | inl w ↦ took_ok (IsShort (suc more)) (b ∷ bs) (b, bs) x w.1 (small_byte more b bs (below_if b 128 w.0) each)
       | inr w ↦
           let (high, read, same) = bind_ok (varint_within start more bs) (λ high. Ok (b - 128 + 128 * high.0, high.1)) x w.1 in
           took_ok (IsShort (suc more)) (b ∷ bs) (b - 128 + 128 * high.0, high.1) x same

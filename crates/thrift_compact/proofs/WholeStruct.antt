@@ -1,16 +1,21 @@
 -- A struct that stands alone, in the words of its fields.
-use Rattle.std.proofs.Common.{◌≡◌, ℕ, ◌-◌, List, ◌++◌, length, take, sym, ap, ◌∙◌, subst, arith, length-append, Ok}
+use Rattle.std.proofs.Common.{◌≡◌, ℕ, ◌-◌, List, ◌++◌, length, take, sym, ap, ◌∙◌, subst, arith, length-append, Ok, Err}
 use Rattle.std.proofs.lemmas.List.{take_at}
 use Rattle.pme_base.specs.Steps.{◌>>=◌}
+use Rattle.pme_base.specs.declared.refusal.ThriftFault.{ThriftFault}
 use Rattle.thrift_compact.specs.declared.kind.TKind.TheVariants as kind
 use Rattle.thrift_compact.specs.Tree.{Tree, struct, Fields}
-use Rattle.thrift_compact.specs.Reading.{nest, value, whole_struct}
+use Rattle.thrift_compact.specs.Reading.{Fault, nest, value, whole_struct}
 use Rattle.thrift_compact.specs.Grammar.{Spells}
+use Rattle.thrift_compact.specs.Faults.{Faults, HasFault}
 use Rattle.thrift_compact.specs.Spelled.{AreBytes}
-use Rattle.thrift_compact.proofs.Steps.{after_ok}
+use Rattle.thrift_compact.proofs.Steps.{after_ok, after_err}
 use Rattle.thrift_compact.proofs.Took.{done}
 use Rattle.thrift_compact.proofs.Again.{value_again}
 use Rattle.thrift_compact.proofs.Sound.{sound}
+use Rattle.thrift_compact.proofs.Faulty.{told}
+use Rattle.thrift_compact.proofs.Refused.{refuses}
+use Rattle.thrift_compact.proofs.Places.{place_inside}
 
 -- the bytes before the rest
 before_rest : (bytes front rest : List ℕ) → bytes ≡ front ++ rest → take (length bytes - length rest) bytes ≡ front
@@ -49,3 +54,19 @@ pub whole_read : (t : Tree) (front rest bytes : List ℕ) → Spells 32 kind.Str
 whole_read t front rest bytes spelled parts =
     let f = struct_read 32 t front rest bytes spelled parts in
     (f.fields, f.read, f.is)
+
+-- where the fields are refused the struct has the fault that is told, within the bytes or at their end, and the other way
+pub struct_refused : (room : ℕ) (bytes : List ℕ) (f : Fault) → AreBytes bytes → (nest room).fields bytes ≡ Err f → Faults room kind.Struct bytes f
+struct_refused room bytes f each refused = told room kind.Struct bytes f each (ap (λ r. r >>= λ x. Ok (struct x.0, x.1)) refused)
+
+pub struct_faulty : (room : ℕ) (bytes : List ℕ) (f : Fault) → Faults room kind.Struct bytes f → (nest room).fields bytes ≡ Err f
+struct_faulty room bytes f fault =
+    after_err _ ((nest room).fields bytes) (λ x. Ok (struct x.0, x.1)) f (refuses room kind.Struct bytes f fault) (λ refused. refused) (λ x read wrong. cc)
+
+pub whole_refused : (bytes : List ℕ) (why : ThriftFault) (left : ℕ) → AreBytes bytes → whole_struct bytes ≡ Err (why, left) → HasFault bytes why (length bytes - left)
+whole_refused bytes why left each refused =
+    let fault : Faults 32 kind.Struct bytes (why, left) = struct_refused 32 bytes (why, left) each refused in
+    (left, omega (arith, place_inside 32 kind.Struct bytes (why, left) fault), fault)
+
+pub whole_faulty : (bytes : List ℕ) (why : ThriftFault) (at : ℕ) → HasFault bytes why at → (left : ℕ) × (whole_struct bytes ≡ Err (why, left)) × (at ≡ length bytes - left)
+whole_faulty bytes why at (left, sum, fault) = (left, struct_faulty 32 bytes (why, left) fault, omega (arith, sum))

@@ -52,14 +52,17 @@ IsMapBody all (suc n) bs =
 abbrev pub IsMap : (TKind → TKind → List ℕ → Type 0) → ℕ → List ℕ → Type 0
 IsMap all n bs = (size rest : List ℕ) × IsSize n size × IsMapBody all n rest × (bs ≡ size ++ rest)
 
--- the head of a field, where the struct has the fields `ids` before it: by the distance from the last id, or the id
--- as a number of its own
-abbrev pub IsFieldHead : List ℤ → ℤ → TKind → List ℕ → Type 0
-IsFieldHead ids id k bs =
-    (is_among id ids ≡ false)
-    × (((delta : ℕ) × (0 < delta) × (delta < 16) × (id ≡ last ids +ℤ pos delta) × (small_id id ≡ true)
+-- what names the id and the kind of a field after the id `before`: by the distance from it, or the id as a number of
+-- its own
+abbrev pub NamesField : ℤ → ℤ → TKind → List ℕ → Type 0
+NamesField before id k bs =
+    ((delta : ℕ) × (0 < delta) × (delta < 16) × (id ≡ before +ℤ pos delta) × (small_id id ≡ true)
     × (bs ≡ (16 * delta + code k) ∷ []))
-    ⊎ ((number : List ℕ) × IsNumber 65536 id number × (bs ≡ code k ∷ number)))
+    ⊎ ((number : List ℕ) × IsNumber 65536 id number × (bs ≡ code k ∷ number))
+
+-- the head of a field, where the struct has the fields `ids` before it
+abbrev pub IsFieldHead : List ℤ → ℤ → TKind → List ℕ → Type 0
+IsFieldHead ids id k bs = (is_among id ids ≡ false) × NamesField (last ids) id k bs
 
 -- a value of kind k in a list, a set or a map, where `other` says what spells a value that is no boolean
 abbrev pub Within : TKind → Tree → List ℕ → Type 0 → Type 0

@@ -21,7 +21,10 @@ mod writer;
 
 pub use canonical::spell;
 pub use kind::TKind;
-pub use laws::{one_spelling, what_is_read_is_spelled, what_is_spelled_is_read};
+pub use laws::{
+    bytes_are_spelled_or_faulty, one_spelling, what_is_faulty_is_refused, what_is_read_is_spelled,
+    what_is_refused_is_faulty, what_is_spelled_is_read,
+};
 pub use read::read_tree;
 pub use refusal::ThriftRefusal;
 pub use show::show_tree;

@@ -1,0 +1,186 @@
+-- What was refused has the fault that was told.
+use Rattle.std.proofs.Common.{◌≡◌, inl, inr, ℕ, zero, suc, ◌<◌, ◌≤◌, ℤ, List, [], ◌∷◌, ◌++◌, length, refl, sym, ap, ◌∙◌, arith, length-append, append_assoc, Option, Some, None, Result, Ok, Err}
+use Rattle.pme_base.specs.Steps.{◌>>=◌}
+use Rattle.pme_base.specs.declared.refusal.ThriftFault.TheVariants.{End, Depth}
+use Rattle.thrift_compact.specs.declared.kind.TKind.{TKind}
+use Rattle.thrift_compact.specs.declared.kind.TKind.TheVariants as kind
+use Rattle.thrift_compact.specs.Tree.{Tree, truth, int8, int16, int32, int64, double, binary, list, set, map, struct, no_trees, tree, no_pairs, pair, Fields, no_fields, field}
+use Rattle.thrift_compact.specs.Reading.{Fault, Read, bytes_at, int8_at, int16_at, int32_at, int64_at, binary_at, truth_at, list_head, size_at, map_kinds, field_head, element, elements, entries, trees_at, pairs_from, pairs_at, after_head, fields, fields_at, too_deep, as_tree, nest, value}
+use Rattle.thrift_compact.specs.Grammar.{IsSize, IsListHead, IsFieldHead, Spells, AllSpell, PairsSpell}
+use Rattle.thrift_compact.specs.Faults.{IsElement, Later, ElementFault, ItemsFault, ListFault, PairFault, PairsFault, MapBodyFault, MapFault, FieldsFault, DepthFault, TruthFault, no_field_head, Faults}
+use Rattle.thrift_compact.specs.Spelled.{AreBytes}
+use Rattle.thrift_compact.proofs.Steps.{after_err, one_refusal}
+use Rattle.thrift_compact.proofs.Took.{Took}
+use Rattle.thrift_compact.proofs.TookNumbers.{size_took}
+use Rattle.thrift_compact.proofs.HeadsAgain.{head_long}
+use Rattle.thrift_compact.proofs.TookHeads.{list_head_took, KindsOfMap, map_kinds_took, IsHead, field_head_took}
+use Rattle.thrift_compact.proofs.Sound.{sound, element_took}
+use Rattle.thrift_compact.proofs.FaultNumbers.{after_part, number_err, size_err, bytes_err, int8_err, binary_err, truth_err}
+use Rattle.thrift_compact.proofs.FaultHeads.{list_head_err, map_kinds_err, field_head_err}
+
+-- every refusal of a value in this room tells its fault
+abbrev pub Told : ℕ → Type 0
+Told room = (k : TKind) (bs : List ℕ) (f : Fault) → AreBytes bs → value room k bs ≡ Err f → Faults room k bs f
+
+truth_element : (bs : List ℕ) (f : Fault) → as_tree truth truth_at bs ≡ Err f → TruthFault bs f
+truth_element bs f e = after_err _ (truth_at bs) (λ b. Ok (truth b.0, b.1)) f e (λ refused. truth_err bs f refused) (λ b read wrong. cc)
+
+element_err : (room : ℕ) → Told room → (k : TKind) (bs : List ℕ) (f : Fault) → AreBytes bs → element (value room) k bs ≡ Err f → ElementFault (Faults room) k bs f
+element_err room told kind.True bs f each e = truth_element bs f e
+element_err room told kind.False bs f each e = truth_element bs f e
+element_err room told k bs f each e = told k bs f each e
+
+-- one part more before the fault
+one_more : (P Q R : List ℕ → Type 0) (Faulty : List ℕ → Fault → Type 0) (bs s : List ℕ) (f : Fault)
+    → ((front others : List ℕ) → P front → Q others → R (front ++ others)) → Took P bs s → Later Q Faulty s f → Later R Faulty bs f
+one_more P Q R Faulty bs s f join t (others, rest, is, parts, fault) =
+    (t.front ++ others, rest, join t.front others t.is is, t.parts ∙ ap (λ more. t.front ++ more) parts ∙ sym (append_assoc t.front others rest), fault)
+
+items_err : (n room : ℕ) → Told room → (k : TKind) (bs : List ℕ) (f : Fault) → AreBytes bs → elements (element (value room) k) n bs ≡ Err f → ItemsFault room (Faults room) k n bs f
+items_err zero room told k bs f each e = cc
+items_err (suc n) room told k bs f each e =
+    after_err _ (element (value room) k bs) (λ t. elements (element (value room) k) n t.1 >>= λ ts. Ok (tree t.0 ts.0, ts.1)) f e
+    (λ refused. (no_trees, omega arith, ([], bs, refl, refl, element_err room told k bs f each refused))) (λ t read more.
+    let one : Took (IsElement room k t.0) bs t.1 = element_took room (sound room) k bs t each read in
+    after_err _ (elements (element (value room) k) n t.1) (λ ts. Ok (tree t.0 ts.0, ts.1)) f more
+    (λ refused.
+    let (ts, below, later) = items_err n room told k t.1 f one.rest refused in (
+      tree t.0 ts,
+      omega (arith, below),
+      one_more (IsElement room k t.0) (AllSpell room k ts) (AllSpell room k (tree t.0 ts)) (ElementFault (Faults room) k) bs t.1 f (λ front others p q. (front, others, p, q, refl)) one later,
+    ))
+    (λ ts read wrong. cc))
+
+list_err : (room : ℕ) → Told room → (bs : List ℕ) (f : Fault) → AreBytes bs → trees_at (value room) bs ≡ Err f → ListFault room (Faults room) bs f
+list_err room told bs f each e =
+    after_err _ (list_head bs) (λ h. elements (element (value room) h.0.0) h.0.1 h.1) f e
+    (λ refused. inl (list_head_err bs f each refused)) (λ h read more.
+    let head : Took (IsListHead h.0.0 h.0.1) bs h.1 = list_head_took bs h each read in
+    inr (h.0.0, h.0.1, after_part (IsListHead h.0.0 h.0.1) (ItemsFault room (Faults room) h.0.0 h.0.1) bs h.1 f head (items_err h.0.1 room told h.0.0 h.1 f head.rest more)))
+
+entries_err : (n room : ℕ) → Told room → (key_kind value_kind : TKind) (bs : List ℕ) (f : Fault) → AreBytes bs
+    → entries (element (value room) key_kind) (element (value room) value_kind) n bs ≡ Err f → PairsFault room (Faults room) n key_kind value_kind bs f
+entries_err zero room told key_kind value_kind bs f each e = cc
+entries_err (suc n) room told key_kind value_kind bs f each e =
+    let others = λ (r : List ℕ). entries (element (value room) key_kind) (element (value room) value_kind) n r in
+    after_err _ (element (value room) key_kind bs) (λ k. element (value room) value_kind k.1 >>= λ v. others v.1 >>= λ ps. Ok (pair k.0 v.0 ps.0, ps.1)) f e
+    (λ refused. (no_pairs, omega arith, ([], bs, refl, refl, inl (element_err room told key_kind bs f each refused)))) (λ k key_read more.
+    let key : Took (IsElement room key_kind k.0) bs k.1 = element_took room (sound room) key_kind bs k each key_read in
+    after_err _ (element (value room) value_kind k.1) (λ v. others v.1 >>= λ ps. Ok (pair k.0 v.0 ps.0, ps.1)) f more
+    (λ refused. (
+      no_pairs,
+      omega arith,
+      (
+        [],
+        bs,
+        refl,
+        refl,
+        inr (
+          k.0,
+          after_part (IsElement room key_kind k.0) (ElementFault (Faults room) value_kind) bs k.1 f key (element_err room told value_kind k.1 f key.rest refused),
+        ),
+      ),
+    )) (λ v value_read later.
+    let one : Took (IsElement room value_kind v.0) k.1 v.1 = element_took room (sound room) value_kind k.1 v key.rest value_read in
+    after_err _ (others v.1) (λ ps. Ok (pair k.0 v.0 ps.0, ps.1)) f later
+    (λ refused.
+    let (ps, below, rest) = entries_err n room told key_kind value_kind v.1 f one.rest refused in
+    let Faulty = PairFault room (Faults room) key_kind value_kind in (
+      pair k.0 v.0 ps,
+      omega (arith, below),
+      one_more (IsElement room key_kind k.0) (λ more. (middle body : List ℕ) × IsElement room value_kind v.0 middle × PairsSpell room key_kind value_kind ps body × (more ≡ middle ++ body))
+          (PairsSpell room key_kind value_kind (pair k.0 v.0 ps)) Faulty bs k.1 f (λ front more p q. (front, q.0, q.1, p, q.2, q.3, ap (λ m. front ++ m) q.4)) key
+          (one_more (IsElement room value_kind v.0) (PairsSpell room key_kind value_kind ps)
+          (λ more. (middle body : List ℕ) × IsElement room value_kind v.0 middle × PairsSpell room key_kind value_kind ps body × (more ≡ middle ++ body)) Faulty k.1 v.1 f
+          (λ middle body p q. (middle, body, p, q, refl)) one rest),
+    ))
+    (λ ps read wrong. cc)))
+
+map_body_err : (n room : ℕ) → Told room → (bs : List ℕ) (f : Fault) → AreBytes bs → pairs_from (value room) n bs ≡ Err f → (0 < n) × MapBodyFault room (Faults room) n bs f
+map_body_err zero room told bs f each e = cc
+map_body_err (suc n) room told bs f each e = (
+  omega arith,
+  after_err _ (map_kinds bs) (λ k. entries (element (value room) k.0.0) (element (value room) k.0.1) (suc n) k.1) f e
+      (λ refused. inl (map_kinds_err bs f refused)) (λ k read more.
+      let kinds : Took (KindsOfMap k.0) bs k.1 = map_kinds_took bs k each read in
+      inr (k.0.0, k.0.1, after_part (KindsOfMap k.0) (PairsFault room (Faults room) (suc n) k.0.0 k.0.1) bs k.1 f kinds (entries_err (suc n) room told k.0.0 k.0.1 k.1 f kinds.rest more))),
+)
+
+map_err : (room : ℕ) → Told room → (bs : List ℕ) (f : Fault) → AreBytes bs → pairs_at (value room) bs ≡ Err f → MapFault room (Faults room) bs f
+map_err room told bs f each e =
+    after_err _ (size_at bs) (λ n. pairs_from (value room) n.0 n.1) f e
+    (λ refused. inl (size_err bs f each refused)) (λ n read more.
+    let size : Took (IsSize n.0) bs n.1 = size_took bs n each read in
+    let (some, fault) = map_body_err n.0 room told n.1 f size.rest more in
+    inr (n.0, some, after_part (IsSize n.0) (MapBodyFault room (Faults room) n.0) bs n.1 f size fault))
+
+abbrev SomeFields : ℕ → List ℤ → List ℕ → Fault → Type 0
+SomeFields room ids bs f = (fs : Fields) × FieldsFault room (Faults room) ids fs bs f
+
+abbrev FieldsTold : ℕ → ℕ → Type 0
+FieldsTold room n = (ids : List ℤ) (bs : List ℕ) (f : Fault) → AreBytes bs → length bs ≤ n → fields (value room) n ids bs ≡ Err f → SomeFields room ids bs f
+
+after_head_err : (room n : ℕ) → Told room → FieldsTold room n → (ids : List ℤ) (o : Option (ℤ × TKind)) (bs s : List ℕ) (f : Fault) → Took (IsHead ids o) bs s
+    → length bs ≤ suc n → after_head (value room) (fields (value room) n) ids o s ≡ Err f → SomeFields room ids bs f
+after_head_err room n told others ids None bs s f head enough e = cc
+after_head_err room n told others ids (Some h) bs s f head enough e =
+    after_err _ (value room h.1 s) (λ t. fields (value room) n (ids ++ h.0 ∷ []) t.1 >>= λ fs. Ok (field h.0 t.0 fs.0, fs.1)) f e
+    (λ refused. (no_fields, inr (h.0, h.1, after_part (IsFieldHead ids h.0 h.1) (Faults room h.1) bs s f head (told h.1 s f head.rest refused)))) (λ t read more.
+    let one : Took (Spells room h.1 t.0) s t.1 = sound room h.1 s t head.rest read in
+    let shorter : length t.1 ≤ n = omega (arith, enough, ap length head.parts, ap length one.parts, length-append head.front s, length-append one.front t.1, head_long ids h.0 h.1 head.front head.is) in
+    after_err _ (fields (value room) n (ids ++ h.0 ∷ []) t.1) (λ fs. Ok (field h.0 t.0 fs.0, fs.1)) f more
+    (λ refused.
+    let (fs, fault) = others (ids ++ h.0 ∷ []) t.1 f one.rest shorter refused in
+    let Rest = FieldsFault room (Faults room) (ids ++ h.0 ∷ []) fs in
+    (field h.0 t.0 fs, (h.1, after_part (IsFieldHead ids h.0 h.1) (Later (Spells room h.1 t.0) Rest) bs s f head (after_part (Spells room h.1 t.0) Rest s t.1 f one fault))))
+    (λ fs read wrong. cc))
+
+no_byte_left : (bs : List ℕ) → length bs ≤ 0 → bs ≡ []
+no_byte_left [] h = refl
+no_byte_left (b ∷ bs) h = absurd (omega arith)
+
+fields_err : (n room : ℕ) → Told room → FieldsTold room n
+fields_err zero room told ids bs f each enough e = (no_fields, inl (no_field_head (no_byte_left bs enough, one_refusal _ (End, 0) f refl e)))
+fields_err (suc n) room told ids bs f each enough e =
+    after_err _ (field_head ids bs) (λ h. after_head (value room) (fields (value room) n) ids h.0 h.1) f e
+    (λ refused. (no_fields, inl (field_head_err ids bs f each refused))) (λ h read more.
+    after_head_err room n told (fields_err n room told) ids h.0 bs h.1 f (field_head_took ids bs h each read) enough more)
+
+deep_err : {A : Type 0} (bs : List ℕ) (f : Fault) (r : Result (A × List ℕ) Fault) → too_deep bs ≡ r → r ≡ Err f → DepthFault bs f
+deep_err [] f r is e = inl (refl, one_refusal r (End, 0) f (sym is) e)
+deep_err (b ∷ bs) f r is e = inr (b, bs, tt, refl, one_refusal r (Depth, suc (length bs)) f (sym is) e)
+
+part_err : {A : Type 0} (make : A → Tree) (part : Read A) (G : Type 0) (bs : List ℕ) (f : Fault) → (part bs ≡ Err f → G) → as_tree make part bs ≡ Err f → G
+part_err make part G bs f fault e = after_err G (part bs) (λ a. Ok (make a.0, a.1)) f e fault (λ a read wrong. cc)
+
+told_zero : Told zero
+told_zero kind.True bs f each e = cc
+told_zero kind.False bs f each e = cc
+told_zero kind.I8 bs f each e = part_err int8 int8_at _ bs f (λ r. int8_err bs f r) e
+told_zero kind.I16 bs f each e = part_err int16 int16_at _ bs f (λ r. number_err 65536 bs f each r) e
+told_zero kind.I32 bs f each e = part_err int32 int32_at _ bs f (λ r. number_err 4294967296 bs f each r) e
+told_zero kind.I64 bs f each e = part_err int64 int64_at _ bs f (λ r. number_err 18446744073709551616 bs f each r) e
+told_zero kind.Double bs f each e = part_err double (bytes_at 8) _ bs f (λ r. bytes_err 8 bs f r) e
+told_zero kind.Binary bs f each e = part_err binary binary_at _ bs f (λ r. binary_err bs f each r) e
+told_zero kind.List bs f each e = part_err list (nest zero).trees _ bs f (λ r. deep_err bs f ((nest zero).trees bs) refl r) e
+told_zero kind.Set bs f each e = part_err set (nest zero).trees _ bs f (λ r. deep_err bs f ((nest zero).trees bs) refl r) e
+told_zero kind.Map bs f each e = part_err map (nest zero).pairs _ bs f (λ r. deep_err bs f ((nest zero).pairs bs) refl r) e
+told_zero kind.Struct bs f each e = part_err struct (nest zero).fields _ bs f (λ r. deep_err bs f ((nest zero).fields bs) refl r) e
+
+told_more : (room : ℕ) → Told room → Told (suc room)
+told_more room told kind.True bs f each e = cc
+told_more room told kind.False bs f each e = cc
+told_more room told kind.I8 bs f each e = part_err int8 int8_at _ bs f (λ r. int8_err bs f r) e
+told_more room told kind.I16 bs f each e = part_err int16 int16_at _ bs f (λ r. number_err 65536 bs f each r) e
+told_more room told kind.I32 bs f each e = part_err int32 int32_at _ bs f (λ r. number_err 4294967296 bs f each r) e
+told_more room told kind.I64 bs f each e = part_err int64 int64_at _ bs f (λ r. number_err 18446744073709551616 bs f each r) e
+told_more room told kind.Double bs f each e = part_err double (bytes_at 8) _ bs f (λ r. bytes_err 8 bs f r) e
+told_more room told kind.Binary bs f each e = part_err binary binary_at _ bs f (λ r. binary_err bs f each r) e
+told_more room told kind.List bs f each e = part_err list (trees_at (value room)) _ bs f (λ r. list_err room told bs f each r) e
+told_more room told kind.Set bs f each e = part_err set (trees_at (value room)) _ bs f (λ r. list_err room told bs f each r) e
+told_more room told kind.Map bs f each e = part_err map (pairs_at (value room)) _ bs f (λ r. map_err room told bs f each r) e
+told_more room told kind.Struct bs f each e = part_err struct (fields_at (value room)) _ bs f (λ r. fields_err (length bs) room told [] bs f each (omega arith) r) e
+
+pub told : (room : ℕ) → Told room
+told zero = told_zero
+told (suc room) = told_more room (told room)
