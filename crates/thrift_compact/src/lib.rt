@@ -8,6 +8,7 @@ mod ids;
 mod kind;
 mod read;
 mod refusal;
+mod skip;
 mod tree;
 
 pub use kind::TKind;
