@@ -4,6 +4,7 @@ pub mod Kinds
 pub mod Laws
 pub mod Reading
 pub mod Spelling
+pub mod Standing
 pub mod Tree
 pub mod View
 pub mod Whole

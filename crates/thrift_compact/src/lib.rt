@@ -3,15 +3,19 @@
 #![tactic(auto)]
 
 mod cursor;
+mod frame;
 mod heads;
 mod ids;
 mod kind;
 mod read;
+mod reader;
 mod refusal;
 mod skip;
 mod tree;
 
+pub use frame::FieldHead;
 pub use kind::TKind;
 pub use read::read_tree;
+pub use reader::Reader;
 pub use refusal::ThriftRefusal;
 pub use tree::{TFields, TList, TMap, TVal};
