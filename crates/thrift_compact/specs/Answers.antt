@@ -34,6 +34,10 @@ Enters (Err stop) room bs =
 abbrev pub mapped : {X Y : Type 0} → (X → Y) → Result (X × List ℕ) Fault → Result (Y × List ℕ) Fault
 mapped f read = read >>= λ x. Ok (f x.0, x.1)
 
+-- a reading whose value is passed over
+abbrev pub passed : {X : Type 0} → Result (X × List ℕ) Fault → Result (Unit {0} × List ℕ) Fault
+passed read = mapped (λ _. tt) read
+
 -- the ids of a struct after the head of a field was read
 abbrev pub Adds : Result (Option (ℤ × TKind)) Stop → List ℤ → List ℤ → Type 0
 Adds (Ok (Some head)) before after = after ≡ before ++ head.0 ∷ []
@@ -75,3 +79,14 @@ byte_is (x ∷ xs) b rest e =
     let first : x ≡ b = ap (λ p. p.0) same in
     let others : xs ≡ rest = ap (λ p. p.1) same in
     cc
+
+-- where a value was passed it is read, and where it wasn't it has the fault
+pub passed_ok : {X : Type 0} (read : Result (X × List ℕ) Fault) (rest : List ℕ) → passed read ≡ Ok (tt, rest) → (x : X) × (read ≡ Ok (x, rest))
+passed_ok (Ok x) rest e =
+    let same : x.1 ≡ rest = ap (λ p. p.1) (ok_is (tt, x.1) (tt, rest) e) in
+    (x.0, ap (λ r. Ok (x.0, r)) same)
+passed_ok (Err f) rest e = absurd cc
+
+pub passed_err : {X : Type 0} (read : Result (X × List ℕ) Fault) (f : Fault) → passed read ≡ Err f → read ≡ Err f
+passed_err (Ok x) f e = absurd cc
+passed_err (Err g) f e = ap (λ h. Err h) (err_is g f e)

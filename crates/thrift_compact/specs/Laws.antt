@@ -1,14 +1,16 @@
 -- Reading a list, a map or a struct one part at a time, whatever is made of the parts: `make` says what the parts
 -- still to come make of the whole, which is what was defined for the bytes at the front. A loop keeps one of the
 -- three facts, begins it with the whole, and ends with what is made of no more parts.
-use Rattle.std.specs.Prelude.{◌≡◌, ℕ, zero, suc, ◌<◌, ◌≤◌, ℤ, List, [], ◌∷◌, ◌++◌, length, Option, Some, None, Result, Ok, Err, refl}
+use Rattle.std.specs.Prelude.{◌≡◌, ℕ, zero, suc, ◌<◌, ◌≤◌, ℤ, Bool, true, false, List, [], ◌∷◌, ◌++◌, length, Option, Some, None, Result, Ok, Err, refl}
 use Rattle.std.proofs.Common.{sym, ap, ◌∙◌, arith}
 use Rattle.pme_base.specs.declared.refusal.ThriftFault.TheVariants.{End}
 use Rattle.pme_base.specs.Steps.{◌>>=◌}
 use Rattle.thrift_compact.specs.declared.kind.TKind.{TKind}
-use Rattle.thrift_compact.specs.Answers.{mapped, err_is}
-use Rattle.thrift_compact.specs.Reading.{Fault, Read, elements, entries, fields, after_head, field_head}
-use Rattle.thrift_compact.specs.Tree.{Tree, Trees, no_trees, tree, Pairs, no_pairs, pair, Fields, no_fields, field}
+use Rattle.thrift_compact.specs.declared.kind.TKind.TheVariants as kind
+use Rattle.thrift_compact.specs.Answers.{mapped, ok_is, err_is, bind_ok}
+use Rattle.thrift_compact.specs.Reading.{Fault, Read, elements, entries, fields, after_head, field_head, as_tree, int8_at, int16_at, int32_at, int64_at, bytes_at, binary_at, nest}
+use Rattle.thrift_compact.specs.Reading.{value as value_at}
+use Rattle.thrift_compact.specs.Tree.{Tree, truth, int8, int16, int32, int64, double, binary, list, set, map, struct, kind_of_tree, Trees, no_trees, tree, Pairs, no_pairs, pair, Fields, no_fields, field}
 
 pub mapped_same : {X Y : Type 0} (f g : X → Y) (r : Result (X × List ℕ) Fault) → ((x : X) → f x ≡ g x) → mapped f r ≡ mapped g r
 mapped_same f g (Ok x) same = ap (λ y. Ok (y, x.1)) (same x.0)
@@ -111,3 +113,29 @@ fields_same f g whole value ids bs same now = record {
   enough = now.enough;
   rest = sym (mapped_same f g (fields value now.turns ids bs) same) ∙ now.rest;
 }
+
+-- a value that was read has the kind that was asked for
+part_kind : {A : Type 0} (make : A → Tree) (part : Read A) (k : TKind) (bs : List ℕ) (t : Tree) (r : List ℕ) → ((a : A) → kind_of_tree (make a) ≡ k) → as_tree make part bs ≡ Ok (t, r) → kind_of_tree t ≡ k
+part_kind make part k bs t r same e =
+    let x = bind_ok (part bs) (λ a. Ok (make a.0, a.1)) (t, r) e in
+    let made : make x.0.0 ≡ t = ap (λ p. p.0) (ok_is (make x.0.0, x.0.1) (t, r) x.2) in
+    ap kind_of_tree (sym made) ∙ same x.0.0
+
+truth_kind : (b : Bool) (k : TKind) (bs : List ℕ) (t : Tree) (r : List ℕ) → kind_of_tree (truth b) ≡ k → ◌≡◌ {A = Result (Tree × List ℕ) Fault} (Ok (truth b, bs)) (Ok (t, r)) → kind_of_tree t ≡ k
+truth_kind b k bs t r same e =
+    let made : truth b ≡ t = ap (λ p. p.0) (ok_is (truth b, bs) (t, r) e) in
+    ap kind_of_tree (sym made) ∙ same
+
+pub value_kind : (room : ℕ) (k : TKind) (bs : List ℕ) (t : Tree) (r : List ℕ) → value_at room k bs ≡ Ok (t, r) → kind_of_tree t ≡ k
+value_kind room kind.True bs t r e = truth_kind true kind.True bs t r refl e
+value_kind room kind.False bs t r e = truth_kind false kind.False bs t r refl e
+value_kind room kind.I8 bs t r e = part_kind int8 int8_at kind.I8 bs t r (λ _. refl) e
+value_kind room kind.I16 bs t r e = part_kind int16 int16_at kind.I16 bs t r (λ _. refl) e
+value_kind room kind.I32 bs t r e = part_kind int32 int32_at kind.I32 bs t r (λ _. refl) e
+value_kind room kind.I64 bs t r e = part_kind int64 int64_at kind.I64 bs t r (λ _. refl) e
+value_kind room kind.Double bs t r e = part_kind double (bytes_at 8) kind.Double bs t r (λ _. refl) e
+value_kind room kind.Binary bs t r e = part_kind binary binary_at kind.Binary bs t r (λ _. refl) e
+value_kind room kind.List bs t r e = part_kind list (nest room).trees kind.List bs t r (λ _. refl) e
+value_kind room kind.Set bs t r e = part_kind set (nest room).trees kind.Set bs t r (λ _. refl) e
+value_kind room kind.Map bs t r e = part_kind map (nest room).pairs kind.Map bs t r (λ _. refl) e
+value_kind room kind.Struct bs t r e = part_kind struct (nest room).fields kind.Struct bs t r (λ _. refl) e

@@ -12,6 +12,7 @@ pub mod Spelled
 pub mod Spelling
 pub mod SpellingLaws
 pub mod Text
+pub mod Standing
 pub mod Tree
 pub mod View
 pub mod Whole

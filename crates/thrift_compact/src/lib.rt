@@ -3,6 +3,7 @@
 #![tactic(auto)]
 
 mod cursor;
+mod frame;
 mod heads;
 mod ids;
 mod kind;
@@ -16,16 +17,20 @@ mod show;
 #[cfg(test)]
 mod show_tests;
 mod spelling_laws;
+mod reader;
+mod skip;
 mod tree;
 mod writer;
 
 pub use canonical::spell;
+pub use frame::FieldHead;
 pub use kind::TKind;
 pub use laws::{
     bytes_are_spelled_or_faulty, one_spelling, what_is_faulty_is_refused, what_is_read_is_spelled,
     what_is_refused_is_faulty, what_is_spelled_is_read,
 };
 pub use read::read_tree;
+pub use reader::Reader;
 pub use refusal::ThriftRefusal;
 pub use show::show_tree;
 pub use spelling_laws::canonical_is_spelled;
