@@ -7,8 +7,8 @@ mod heads;
 mod ids;
 mod kind;
 mod laws;
-mod read;
 mod put;
+mod read;
 mod refusal;
 mod show;
 #[cfg(test)]
