@@ -1,9 +1,11 @@
 -- A struct that stands alone, as a call answers it: its tree and how many bytes it takes, or the fault and its offset
 -- from the front.
 use Rattle.std.specs.Prelude.{◌≡◌, ℕ, ◌-◌, List, length, Result, Ok, Err}
+use Rattle.pme_base.specs.declared.refusal.ThriftFault.{ThriftFault}
 use Rattle.thrift_compact.specs.declared.refusal.ThriftRefusal.{ThriftRefusal}
 use Rattle.thrift_compact.specs.declared.refusal.ThriftRefusal.TheVariants.{Bad, OutOfMemory}
 use Rattle.thrift_compact.specs.declared.tree.TVal.{TVal}
+use Rattle.thrift_compact.specs.Faults.{HasFault}
 use Rattle.thrift_compact.specs.Reading.{Fault, whole_struct}
 use Rattle.thrift_compact.specs.Tree.{Tree, struct, Fields}
 use Rattle.thrift_compact.specs.View.{view}
@@ -24,3 +26,14 @@ abbrev pub IsReadAs : Tree → List ℕ → Result (TVal × ℕ) ThriftRefusal �
 IsReadAs tree front (Ok r) = (view r.0 ≡ tree) × (r.1 ≡ length front)
 IsReadAs tree front (Err (Bad at why)) = ⊥
 IsReadAs tree front (Err OutOfMemory) = Unit {0}
+
+-- a refusal tells the fault that the bytes have, and where, unless memory was refused
+abbrev pub TellsFault : List ℕ → ThriftRefusal → Type 0
+TellsFault bytes (Bad at why) = HasFault bytes why at
+TellsFault bytes OutOfMemory = Unit {0}
+
+-- the answer is the refusal with this fault and its offset, unless memory was refused
+abbrev pub IsRefusedFor : ThriftFault → ℕ → Result (TVal × ℕ) ThriftRefusal → Type 0
+IsRefusedFor why at (Ok r) = ⊥
+IsRefusedFor why at (Err (Bad other fault)) = (other ≡ at) × (fault ≡ why)
+IsRefusedFor why at (Err OutOfMemory) = Unit {0}

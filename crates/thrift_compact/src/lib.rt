@@ -12,6 +12,7 @@ mod read;
 mod canonical;
 mod order;
 mod put;
+mod read;
 mod refusal;
 mod show;
 #[cfg(test)]

@@ -1,5 +1,5 @@
 // Reading a tree: one function for a value, one for a value in a list or a map, and one for each part that holds others.
-ghost use Rattle.std.specs.Prelude.{◌≡◌, ℕ, ◌<◌, ◌≤◌, List, ◌++◌, length, take, OnOk, IfOk};
+ghost use Rattle.std.specs.Prelude.{◌≡◌, ℕ, ◌<◌, ◌≤◌, List, ◌++◌, length, take, OnOk, IfOk, IfErr};
 ghost use Rattle.thrift_compact.specs.declared.kind.TKind.TheVariants as kinds;
 ghost use Rattle.thrift_compact.specs.Grammar.{Spells};
 ghost use Rattle.thrift_compact.specs.Spelled.{AreBytes};
@@ -7,7 +7,9 @@ ghost use Rattle.thrift_compact.specs.Tree.{Tree};
 ghost use Rattle.thrift_compact.specs.Answers.{Gives};
 ghost use Rattle.thrift_compact.specs.Reading.{element, nest, value as value_at};
 ghost use Rattle.thrift_compact.specs.View.{view, list_view, map_view, struct_view};
-ghost use Rattle.thrift_compact.specs.Whole.{ReadsTree, IsReadAs};
+ghost use Rattle.thrift_compact.specs.Whole.{ReadsTree, IsReadAs, TellsFault, IsRefusedFor};
+ghost use Rattle.thrift_compact.specs.Faults.{HasFault};
+ghost use Rattle.pme_base.specs.declared.refusal.ThriftFault.{ThriftFault};
 
 use crate::cursor::{Cursor, Stop};
 use crate::heads::{field_head, list_head, map_kinds};
@@ -29,6 +31,9 @@ pub fn read_tree(alloc: Global, bytes: &[u8]) -> Result<(TVal, usize), ThriftRef
     ensures found { IfOk result (λ read. Spells 32 kinds.Struct (view read.0) (take read.1 bytes.now)) }
     ensures only { (tree : Tree) (front rest : List ℕ) → Spells 32 kinds.Struct tree front → bytes.now ≡ front ++ rest → IsReadAs tree front result }
     ensures within { IfOk result (λ read. read.1 ≤ length bytes.now) }
+    // A refusal tells the fault that the bytes have, and where they have a fault it is told.
+    ensures refused { IfErr result (λ refusal. TellsFault bytes.now refusal) }
+    ensures faulty { (why : ThriftFault) (at : ℕ) → HasFault bytes.now why at → IsRefusedFor why at result }
 {
     read_struct(alloc, bytes)
 }
