@@ -13,5 +13,5 @@ mod tree;
 pub use canonical::spell;
 pub use kind::TKind;
 pub use refusal::ThriftRefusal;
-pub use spelling_laws::canonical_is_spelled;
+pub use spelling_laws::{canonical_is_spelled, ordered_is_arranged, spelled_is_proper};
 pub use tree::{TFields, TList, TMap, TVal};
