@@ -8,6 +8,8 @@ mod order;
 mod put;
 mod refusal;
 mod spelling_laws;
+#[cfg(test)]
+mod spelling_tests;
 mod tree;
 
 pub use canonical::spell;
