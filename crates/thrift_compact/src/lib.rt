@@ -20,6 +20,8 @@ mod show_tests;
 mod spelling_laws;
 mod reader;
 mod skip;
+#[cfg(test)]
+mod spelling_tests;
 mod tree;
 mod writer;
 
@@ -35,5 +37,6 @@ pub use reader::Reader;
 pub use refusal::ThriftRefusal;
 pub use show::show_tree;
 pub use spelling_laws::canonical_is_spelled;
+pub use spelling_laws::{canonical_is_spelled, ordered_is_arranged, spelled_is_proper};
 pub use tree::{TFields, TList, TMap, TVal};
 pub use writer::Writer;
