@@ -1,5 +1,6 @@
 pub use Rattle.hex.specs.Hex
 pub mod Calls
+pub mod Described
 pub mod Grammar
 pub mod Kinds
 pub mod Ordered

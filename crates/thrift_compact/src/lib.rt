@@ -13,6 +13,9 @@ mod show_tests;
 mod spelling_laws;
 mod tree;
 mod writer;
+#[cfg(test)]
+mod writer_tests;
+mod writing_laws;
 
 pub use canonical::spell;
 pub use kind::TKind;
@@ -21,3 +24,4 @@ pub use show::show_tree;
 pub use spelling_laws::canonical_is_spelled;
 pub use tree::{TFields, TList, TMap, TVal};
 pub use writer::Writer;
+pub use writing_laws::writes_the_canonical_spelling;
