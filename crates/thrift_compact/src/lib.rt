@@ -21,7 +21,7 @@ pub use canonical::spell;
 pub use kind::TKind;
 pub use refusal::ThriftRefusal;
 pub use show::show_tree;
-pub use spelling_laws::canonical_is_spelled;
+pub use spelling_laws::{canonical_is_spelled, ordered_is_arranged, spelled_is_proper};
 pub use tree::{TFields, TList, TMap, TVal};
 pub use writer::Writer;
 pub use writing_laws::writes_the_canonical_spelling;
