@@ -1,18 +1,22 @@
 -- The calls of a tree write its spelling.
-use Rattle.std.proofs.Common.{◌≡◌, ℕ, zero, suc, ◌+◌, ◌-◌, ◌<◌, ℤ, pos, ◌<ℤ◌, refl, sym, ◌∙◌, ap, subst, List, [], ◌∷◌, ◌++◌, append_assoc, append-nil, length, Option, Some, None, arith, true, FitsSigned, w16, int_lt}
+use Rattle.std.proofs.Common.{◌≡◌, ℕ, suc, ◌+◌, ◌-◌, ℤ, pos, refl, sym, ◌∙◌, ap, subst, List, [], ◌∷◌, ◌++◌, append_assoc, append-nil, length, Option, Some, None, arith, true, FitsSigned, w16, int_lt}
 use Rattle.thrift_compact.specs.declared.kind.TKind.{TKind}
 use Rattle.thrift_compact.specs.declared.kind.TKind.TheVariants as kind
 use Rattle.thrift_compact.specs.declared.writer.Part.{Part}
 use Rattle.thrift_compact.specs.declared.writer.Part.TheVariants as part
 use Rattle.thrift_compact.specs.Calls as call
-use Rattle.thrift_compact.specs.Described.{field_calls, value_calls, item_calls, one_item_calls, calls_of, IsDescribed, AreFields, AreItems, IsItem, IsAbove, Runs, WritesCanonically}
+use Rattle.thrift_compact.specs.Described.{field_calls, value_calls, item_calls, one_item_calls, calls_of, IsDescribed, AreFields, AreItems, IsItem, IsAbove, Runs, WritesCanonically, WritesWhatIsDescribed}
 use Rattle.thrift_compact.specs.Spelling.{spelling, items_spelling, fields_spelling, field_head_of, list_head_of, items_kind, element_kind, within, ordered, ordered_items, ordered_parts, below_ids}
 use Rattle.thrift_compact.specs.Ordered.{ascend, floor_of}
+use Rattle.thrift_compact.proofs.Arranged.{ascending_new}
 use Rattle.thrift_compact.proofs.Selection.{ascending_stays}
+use Rattle.thrift_compact.proofs.Spelled.{spelled}
+use Rattle.thrift_compact.specs.Grammar.{Spells}
+use Rattle.thrift_compact.specs.Proper.{AllOfKind, AreDistinct, ids_of, IsProper, AllProper, FieldsProper, FitsTypes, AllFit, FieldsFit}
 use Rattle.thrift_compact.specs.View.{fields_of}
 use Rattle.std.proofs.lemmas.Int.{ints}
 use Rattle.thrift_compact.specs.Tree.{Tree, truth, int8, int16, int32, int64, double, binary, list, set, map, struct, Trees, no_trees, tree, Fields, no_fields, field, count, kind_of_tree}
-use Rattle.thrift_compact.specs.Writing.{Draft, new_draft, finished, after, May, resumed, id_before, named_kind, Follows}
+use Rattle.thrift_compact.specs.Writing.{Draft, new_draft, finished, after, resumed, id_before, named_kind, Follows}
 
 -- one run of calls after another
 pub runs-append : (cs ds : List call.Call) (a b c : Draft) → Runs cs a b → Runs ds b c → Runs (cs ++ ds) a c
@@ -64,7 +68,7 @@ mutual
   value-runs room (int16 z) id last out outer deep above is_one = ((follows last id above, is_one), refl)
   value-runs room (int32 z) id last out outer deep above is_one = ((follows last id above, is_one), refl)
   value-runs room (int64 z) id last out outer deep above is_one = ((follows last id above, is_one), refl)
-  value-runs room (binary bytes) id last out outer deep above is_one = ((follows last id above, is_one), refl)
+  value-runs room (binary bytes) id last out outer deep above is_one = ((follows last id above, is_one.0), refl)
   value-runs room (struct fs) id last out outer deep above is_one =
       let head = field_head_of (id_before (part.Struct last)) id kind.Struct in (
         (follows last id above, omega (arith, deep, is_one.1)),
@@ -120,7 +124,7 @@ mutual
   item-runs room (int16 z) n out outer deep is_one = (((refl, omega arith), is_one), refl)
   item-runs room (int32 z) n out outer deep is_one = (((refl, omega arith), is_one), refl)
   item-runs room (int64 z) n out outer deep is_one = (((refl, omega arith), is_one), refl)
-  item-runs room (binary bytes) n out outer deep is_one = (((refl, omega arith), is_one), refl)
+  item-runs room (binary bytes) n out outer deep is_one = (((refl, omega arith), is_one.0), refl)
   item-runs room (struct fs) n out outer deep is_one = (
     ((refl, omega arith), omega (arith, deep, is_one.1)),
     fields-run is_one.0 fs None out (part.List kind.Struct (suc n - 1) ∷ outer) (omega (arith, deep, is_one.1)) is_one.2,
@@ -190,3 +194,96 @@ struct-runs fs is_one = (
 pub writes-canonically : WritesCanonically
 writes-canonically fs is_one =
     runs-to (calls_of fs) new_draft _ _ (ap (λ t. finished (spelling t)) (sym (stays 32 (struct fs) is_one))) (struct-runs fs is_one)
+
+-- a described tree is proper and fits its types
+of-kind : (room : ℕ) (k : TKind) (ts : Trees) → AreItems room k ts → AllOfKind k ts
+of-kind room k no_trees are = tt
+of-kind room k (tree t ts) are = (are.0, of-kind room k ts are.2)
+
+distinct-ids : (room : ℕ) (fs : Fields) → AreFields room None fs → AreDistinct (ids_of fs)
+distinct-ids room fs are =
+    subst (λ gs. AreDistinct (ids_of gs)) (fields-stay room None fs are) (ascending_new below_ids [] (ordered_parts fs) tt (ids-ascend room None fs are))
+
+mutual
+  described-proper : (room : ℕ) (t : Tree) → IsDescribed room t → IsProper room t
+  described-proper room (truth t) is_one = tt
+  described-proper room (int8 z) is_one = tt
+  described-proper room (int16 z) is_one = tt
+  described-proper room (int32 z) is_one = tt
+  described-proper room (int64 z) is_one = tt
+  described-proper room (binary bytes) is_one = is_one.0
+  described-proper room (struct fs) is_one =
+      (is_one.0, is_one.1, distinct-ids is_one.0 fs is_one.2, fields-proper is_one.0 None fs is_one.2)
+  described-proper room (list ts) is_one = (
+    is_one.0,
+    is_one.1,
+    is_one.2,
+    (items_kind ts, of-kind is_one.0 (items_kind ts) ts is_one.3),
+    items-proper is_one.0 (items_kind ts) ts is_one.3,
+  )
+  described-proper room (double bytes) is_one = absurd is_one
+  described-proper room (set ts) is_one = absurd is_one
+  described-proper room (map ps) is_one = absurd is_one
+
+  fields-proper : (room : ℕ) (last : Option ℤ) (fs : Fields) → AreFields room last fs → FieldsProper room fs
+  fields-proper room last no_fields are = tt
+  fields-proper room last (field id t fs) are = (described-proper room t are.2, fields-proper room (Some id) fs are.3)
+
+  items-proper : (room : ℕ) (k : TKind) (ts : Trees) → AreItems room k ts → AllProper room ts
+  items-proper room k no_trees are = tt
+  items-proper room k (tree t ts) are = (item-proper room t are.1, items-proper room k ts are.2)
+
+  item-proper : (room : ℕ) (t : Tree) → IsItem room t → IsProper room t
+  item-proper room (int8 z) is_one = tt
+  item-proper room (int16 z) is_one = tt
+  item-proper room (int32 z) is_one = tt
+  item-proper room (int64 z) is_one = tt
+  item-proper room (binary bytes) is_one = is_one.0
+  item-proper room (struct fs) is_one =
+      (is_one.0, is_one.1, distinct-ids is_one.0 fs is_one.2, fields-proper is_one.0 None fs is_one.2)
+  item-proper room (truth t) is_one = absurd is_one
+  item-proper room (double bytes) is_one = absurd is_one
+  item-proper room (list ts) is_one = absurd is_one
+  item-proper room (set ts) is_one = absurd is_one
+  item-proper room (map ps) is_one = absurd is_one
+
+mutual
+  described-fits : (room : ℕ) (t : Tree) → IsDescribed room t → FitsTypes t
+  described-fits room (truth t) is_one = tt
+  described-fits room (int8 z) is_one = is_one
+  described-fits room (int16 z) is_one = is_one
+  described-fits room (int32 z) is_one = is_one
+  described-fits room (int64 z) is_one = is_one
+  described-fits room (binary bytes) is_one = is_one.1
+  described-fits room (struct fs) is_one = fields-fit is_one.0 None fs is_one.2
+  described-fits room (list ts) is_one = items-fit is_one.0 (items_kind ts) ts is_one.3
+  described-fits room (double bytes) is_one = absurd is_one
+  described-fits room (set ts) is_one = absurd is_one
+  described-fits room (map ps) is_one = absurd is_one
+
+  fields-fit : (room : ℕ) (last : Option ℤ) (fs : Fields) → AreFields room last fs → FieldsFit fs
+  fields-fit room last no_fields are = tt
+  fields-fit room last (field id t fs) are = (are.0, described-fits room t are.2, fields-fit room (Some id) fs are.3)
+
+  items-fit : (room : ℕ) (k : TKind) (ts : Trees) → AreItems room k ts → AllFit ts
+  items-fit room k no_trees are = tt
+  items-fit room k (tree t ts) are = (item-fits room t are.1, items-fit room k ts are.2)
+
+  item-fits : (room : ℕ) (t : Tree) → IsItem room t → FitsTypes t
+  item-fits room (int8 z) is_one = is_one
+  item-fits room (int16 z) is_one = is_one
+  item-fits room (int32 z) is_one = is_one
+  item-fits room (int64 z) is_one = is_one
+  item-fits room (binary bytes) is_one = is_one.1
+  item-fits room (struct fs) is_one = fields-fit is_one.0 None fs is_one.2
+  item-fits room (truth t) is_one = absurd is_one
+  item-fits room (double bytes) is_one = absurd is_one
+  item-fits room (list ts) is_one = absurd is_one
+  item-fits room (set ts) is_one = absurd is_one
+  item-fits room (map ps) is_one = absurd is_one
+
+pub writes-what-is-described : WritesWhatIsDescribed
+writes-what-is-described fs is_one =
+    let whole = struct fs in
+    subst (λ t. Spells 32 kind.Struct whole (spelling t)) (sym (stays 32 whole is_one))
+    (spelled 32 whole (described-proper 32 whole is_one) (described-fits 32 whole is_one))

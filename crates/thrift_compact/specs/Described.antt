@@ -1,10 +1,11 @@
 -- The trees that the writer's calls describe, their calls, and the law on what the calls write.
-use Rattle.std.specs.Prelude.{◌≡◌, ℕ, suc, ℤ, pos, ◌<ℤ◌, FitsSigned, List, [], ◌∷◌, ◌++◌, length, Option, Some, None}
+use Rattle.std.specs.Prelude.{◌≡◌, ℕ, suc, ℤ, ◌<ℤ◌, FitsSigned, List, [], ◌∷◌, ◌++◌, length, Option, Some, None}
 use Rattle.std.specs.Int.{w16}
 use Rattle.thrift_compact.specs.declared.kind.TKind.{TKind}
 use Rattle.thrift_compact.specs.declared.kind.TKind.TheVariants as kind
 use Rattle.thrift_compact.specs.Calls as call
-use Rattle.thrift_compact.specs.Proper.{IsSmall}
+use Rattle.thrift_compact.specs.Grammar.{Spells}
+use Rattle.thrift_compact.specs.Proper.{IsSmall, AreBytes}
 use Rattle.thrift_compact.specs.Spelling.{canonical, element_kind, items_kind}
 use Rattle.thrift_compact.specs.Tree.{Tree, truth, int8, int16, int32, int64, double, binary, list, set, map, struct, Trees, no_trees, tree, Fields, no_fields, field, count}
 use Rattle.thrift_compact.specs.Writing.{Draft, new_draft, finished, after, May, IsWhole}
@@ -64,7 +65,7 @@ abbrev mutual
   IsDescribed room (int16 z) = IsWhole kind.I16 z
   IsDescribed room (int32 z) = IsWhole kind.I32 z
   IsDescribed room (int64 z) = IsWhole kind.I64 z
-  IsDescribed room (binary bytes) = IsSmall (length bytes)
+  IsDescribed room (binary bytes) = IsSmall (length bytes) × AreBytes bytes
   IsDescribed room (struct fs) = (within : ℕ) × (room ≡ suc within) × AreFields within None fs
   IsDescribed room (list ts) = (within : ℕ) × (room ≡ suc within) × IsSmall (count ts) × AreItems within (items_kind ts) ts
   IsDescribed room (double bytes) = ⊥
@@ -86,7 +87,7 @@ abbrev mutual
   IsItem room (int16 z) = IsWhole kind.I16 z
   IsItem room (int32 z) = IsWhole kind.I32 z
   IsItem room (int64 z) = IsWhole kind.I64 z
-  IsItem room (binary bytes) = IsSmall (length bytes)
+  IsItem room (binary bytes) = IsSmall (length bytes) × AreBytes bytes
   IsItem room (struct fs) = (within : ℕ) × (room ≡ suc within) × AreFields within None fs
   IsItem room (truth t) = ⊥
   IsItem room (double bytes) = ⊥
@@ -103,3 +104,8 @@ Runs (c ∷ calls) from to = May c from × Runs calls (after c from) to
 abbrev pub WritesCanonically : Type 0
 WritesCanonically =
     (fs : Fields) → IsDescribed 32 (struct fs) → Runs (calls_of fs) new_draft (finished (canonical (struct fs)))
+
+-- and that is a spelling of the very tree
+abbrev pub WritesWhatIsDescribed : Type 0
+WritesWhatIsDescribed =
+    (fs : Fields) → IsDescribed 32 (struct fs) → Spells 32 kind.Struct (struct fs) (canonical (struct fs))
