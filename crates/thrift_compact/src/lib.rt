@@ -24,6 +24,9 @@ mod skip;
 mod spelling_tests;
 mod tree;
 mod writer;
+#[cfg(test)]
+mod writer_tests;
+mod writing_laws;
 
 pub use canonical::spell;
 pub use frame::FieldHead;
@@ -40,3 +43,4 @@ pub use spelling_laws::canonical_is_spelled;
 pub use spelling_laws::{canonical_is_spelled, ordered_is_arranged, spelled_is_proper};
 pub use tree::{TFields, TList, TMap, TVal};
 pub use writer::Writer;
+pub use writing_laws::writes_the_canonical_spelling;
