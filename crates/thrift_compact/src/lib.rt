@@ -11,6 +11,8 @@ mod read;
 mod reader;
 mod refusal;
 mod skip;
+#[cfg(test)]
+mod tests;
 mod tree;
 
 pub use frame::FieldHead;
