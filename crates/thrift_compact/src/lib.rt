@@ -22,6 +22,7 @@ mod reader;
 mod skip;
 #[cfg(test)]
 mod spelling_tests;
+mod tests;
 mod tree;
 mod writer;
 #[cfg(test)]
