@@ -1,8 +1,7 @@
 pub mod Answers
-pub use Rattle.hex.specs.Hex
 pub mod Calls
-pub mod Faults
 pub mod Described
+pub mod Faults
 pub mod Grammar
 pub mod Kinds
 pub mod Laws
@@ -12,9 +11,10 @@ pub mod Reading
 pub mod Spelled
 pub mod Spelling
 pub mod SpellingLaws
-pub mod Text
 pub mod Standing
+pub mod Text
 pub mod Tree
 pub mod View
 pub mod Whole
 pub mod Writing
+pub use Rattle.hex.specs.Hex

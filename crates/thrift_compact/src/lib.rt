@@ -2,26 +2,26 @@
 // walks the bytes by types without building one, the canonical spelling, a writer of it, and a tree's text.
 #![tactic(auto)]
 
+mod canonical;
 mod cursor;
 mod frame;
 mod heads;
 mod ids;
 mod kind;
 mod laws;
-mod read;
-mod canonical;
 mod order;
 mod put;
 mod read;
+mod reader;
 mod refusal;
 mod show;
 #[cfg(test)]
 mod show_tests;
-mod spelling_laws;
-mod reader;
 mod skip;
+mod spelling_laws;
 #[cfg(test)]
 mod spelling_tests;
+#[cfg(test)]
 mod tests;
 mod tree;
 mod writer;
@@ -40,7 +40,6 @@ pub use read::read_tree;
 pub use reader::Reader;
 pub use refusal::ThriftRefusal;
 pub use show::show_tree;
-pub use spelling_laws::canonical_is_spelled;
 pub use spelling_laws::{canonical_is_spelled, ordered_is_arranged, spelled_is_proper};
 pub use tree::{TFields, TList, TMap, TVal};
 pub use writer::Writer;
