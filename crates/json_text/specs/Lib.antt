@@ -7,3 +7,4 @@ pub use Rattle.serde_json.specs.Data
 pub use Rattle.serde_json.specs.View
 pub use Rattle.serde_json.specs.Find
 pub use Rattle.serde_json.specs.Written
+pub use Rattle.hex.specs.Hex
