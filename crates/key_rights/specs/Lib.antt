@@ -1,1 +1,4 @@
 pub mod Nonces
+pub mod Finding
+pub mod KeysFile
+pub mod KeyCauses

@@ -1,7 +1,35 @@
-use crate::{ColumnKey, FooterKey, NonceOwner, NonceRefusal, NonceSet};
+use crate::{
+    ColumnKey, FailingFinder, FooterKey, IdKeys, KeyAnswer, KeyFinder, KeyTrouble, KeysRefusal,
+    NonceOwner, NonceRefusal, NonceSet, keys_are_hex,
+};
 use aes_block::AesKey;
 use pme_base::Bytes;
+use std::alloc::Global;
 use std::test::Fail;
+
+// A keys file, and the first id that has no key; `-` where each has one.
+const FILES: &str = r#"
+{} -> -
+{"k":"000102030405060708090a0B0C0D0E0F"} -> -
+{"k":"000102030405060708090a0b0c0d0e0f1011121314151617"} -> -
+{"k":"000102030405060708090a0b0c0d0e0f101112131415161718191a1b1c1d1e1f"} -> -
+{"kf":"00"} -> kf
+{"k":"000102030405060708090a0b0c0d0e0f0"} -> k
+{"k":"000102030405060708090a0b0c0d0e0g"} -> k
+{"k":"000102030405060708090a0b0c0d0e0f1011"} -> k
+{"b":1,"a":"000102030405060708090a0b0c0d0e0f","aa":null,"B":"000102030405060708090a0b0c0d0e0f"} -> aa
+{"k":1,"k":"000102030405060708090a0b0c0d0e0f"} -> -
+{"":""} -> 
+[] -> 
+1 -> 
+kf -> 
+"#;
+
+const KEYS: &[u8] = br#"{
+    "kc": "202122232425262728292a2b2c2d2e2f",
+    "footer": "303132333435363738393a3b3c3d3e3f",
+    "column:a.b": "404142434445464748494a4b4c4d4e4f5051525354555657"
+}"#;
 
 #[test]
 fn keys_are_lent(rt: HostRuntime) -> Result<(), Fail> {
@@ -37,5 +65,59 @@ fn a_nonce_is_taken_once_by_each_owner(rt: HostRuntime) -> Result<(), Fail> {
         assert_eq!(rt; taken.is_ok(), is_fresh);
         assert_eq!(rt; taken.err() == Some(NonceRefusal::Repeated), !is_fresh);
     }
+    Ok(())
+}
+
+fn first_bad(alloc: Global, file: &[u8]) -> Result<Bytes, KeysRefusal> {
+    match IdKeys::parse(alloc, file) {
+        Ok(_) => Ok(Bytes::copy_of(alloc, b"-")?),
+        Err(KeysRefusal::Bad(id)) => Ok(id),
+        Err(KeysRefusal::OutOfMemory) => Err(KeysRefusal::OutOfMemory),
+    }
+}
+
+#[test]
+fn a_keys_file_gives_each_id_a_key(rt: HostRuntime) -> Result<(), Fail> {
+    for row in FILES.lines() {
+        if let Some((file, id)) = row.split_once(" -> ") {
+            let first = first_bad(rt.alloc(), file.as_bytes())?;
+            assert_eq!(rt; first.as_slice(), id.as_bytes(), "{file}");
+        }
+    }
+    keys_are_hex();
+    Ok(())
+}
+
+// The first byte of the key that was found.
+fn first_byte(answer: &KeyAnswer) -> Option<u8> {
+    match answer {
+        KeyAnswer::Held(key) => key.bytes().first().copied(),
+        KeyAnswer::Absent => None,
+        KeyAnswer::Refused(_, _) => None,
+    }
+}
+
+#[test]
+fn keys_are_found_by_metadata_or_path(rt: HostRuntime) -> Result<(), Fail> {
+    let mut keys = IdKeys::parse(rt.alloc(), KEYS)?;
+    let metadata: [(Option<&[u8]>, Option<u8>, Option<u8>); 4] = [
+        (Some(b"kc"), Some(0x20), Some(0x20)),
+        (Some(b"kx"), None, None),
+        (Some(b""), None, None),
+        (None, Some(0x30), Some(0x40)),
+    ];
+    for (metadata, of_footer, of_column) in metadata {
+        let found = keys.footer_key(rt.alloc(), metadata)?;
+        assert_eq!(rt; first_byte(&found), of_footer);
+        let found = keys.column_key(rt.alloc(), metadata, "a.b")?;
+        assert_eq!(rt; first_byte(&found), of_column);
+    }
+    let found = keys.column_key(rt.alloc(), None, "a")?;
+    assert_eq!(rt; first_byte(&found), None);
+    let mut failing = FailingFinder::new();
+    let asked = failing.footer_key(rt.alloc(), None).err();
+    assert_eq!(rt; asked, Some(KeyTrouble::Failed));
+    let asked = failing.column_key(rt.alloc(), None, "a").err();
+    assert_eq!(rt; asked, Some(KeyTrouble::Failed));
     Ok(())
 }

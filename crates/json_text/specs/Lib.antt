@@ -1,0 +1,10 @@
+pub mod Json
+pub mod Order
+pub mod Members
+pub mod Codings
+pub mod Built
+pub use Rattle.serde_json.specs.Data
+pub use Rattle.serde_json.specs.View
+pub use Rattle.serde_json.specs.Find
+pub use Rattle.serde_json.specs.Written
+pub use Rattle.hex.specs.Hex

@@ -1,0 +1,56 @@
+ghost use Rattle.std.specs.Prelude.{◌≡◌, Some, IsUtf8, IfOk};
+ghost use Rattle.json_text.specs.Codings as defined;
+
+use base64::DecodeAllocError;
+use base64::engine::general_purpose::STANDARD;
+use hex::FromHexError;
+use pme_base::{Bytes, OutOfMemory};
+use std::alloc::Global;
+
+/// The base64 text of bytes: the standard alphabet, with padding (RFC 4648, section 4). It has four bytes for each
+/// three, begun ones included.
+#[tactic(auto, unfolding(crate::specs::Codings::base64_text, crate::specs::Codings::bytes_of_base64, base64::specs::GeneralPurpose::decoded_of))]
+pub fn base64_text(alloc: Global, bytes: &[u8]) -> Result<Bytes, OutOfMemory>
+    ensures text { IfOk result (λ text. text ≡ defined.base64_text bytes.now) }
+    ensures read_back { IfOk result (λ text. defined.bytes_of_base64 text ≡ Some bytes.now) }
+    ensures utf8 { IfOk result (λ text. IsUtf8 text) }
+{
+    let text = STANDARD.encode(alloc, bytes)?;
+    Ok(Bytes::from_vec(text.into_bytes()))
+}
+
+/// The bytes of a base64 text; None exactly where it is none. The padding must be there, and the bits after the
+/// last byte must be 0.
+#[tactic(auto, unfolding(crate::specs::Codings::bytes_of_base64, base64::specs::GeneralPurpose::decoded_of))]
+pub fn bytes_of_base64(alloc: Global, text: &[u8]) -> Result<Option<Bytes>, OutOfMemory>
+    ensures { IfOk result (λ bytes. bytes ≡ defined.bytes_of_base64 text.now) }
+{
+    match STANDARD.decode(alloc, text) {
+        Ok(bytes) => Ok(Some(Bytes::from_vec(bytes))),
+        Err(DecodeAllocError::OutOfMemory) => Err(OutOfMemory),
+        Err(_) => Ok(None),
+    }
+}
+
+/// The hex text of bytes, two lower-case digits a byte (RFC 4648, section 8, in lower case).
+#[tactic(auto, unfolding(crate::specs::Codings::hex_text, crate::specs::Codings::bytes_of_hex))]
+pub fn hex_text(alloc: Global, bytes: &[u8]) -> Result<Bytes, OutOfMemory>
+    ensures text { IfOk result (λ text. text ≡ defined.hex_text bytes.now) }
+    ensures read_back { IfOk result (λ text. defined.bytes_of_hex text ≡ Some bytes.now) }
+    ensures utf8 { IfOk result (λ text. IsUtf8 text) }
+{
+    let text = hex::encode(alloc, bytes)?;
+    Ok(Bytes::from_vec(text.into_bytes()))
+}
+
+/// The bytes of a hex text; None exactly where it isn't an even number of digits. Either case is accepted.
+#[tactic(auto, unfolding(crate::specs::Codings::bytes_of_hex))]
+pub fn bytes_of_hex(alloc: Global, text: &[u8]) -> Result<Option<Bytes>, OutOfMemory>
+    ensures { IfOk result (λ bytes. bytes ≡ defined.bytes_of_hex text.now) }
+{
+    match hex::decode(alloc, text) {
+        Ok(bytes) => Ok(Some(Bytes::from_vec(bytes))),
+        Err(FromHexError::OutOfMemory) => Err(OutOfMemory),
+        Err(_) => Ok(None),
+    }
+}

@@ -1,0 +1,22 @@
+// JSON texts (RFC 8259), base64 and hex (RFC 4648), each as a function from bytes to what they mean and back.
+// The crates above read and write their files with these calls, and state what they read by the words of `specs/`.
+#![tactic(auto)]
+
+mod access;
+mod building;
+mod codings;
+mod laws;
+mod reading;
+#[cfg(test)]
+mod tests;
+mod writing;
+
+pub use access::{first_other_than_text, list_at, text_at, truth_at, whole_number_at};
+pub use building::{
+    ListBuilder, ObjectBuilder, text_value, text_value_of_bytes, truth_value, whole_number_value,
+};
+pub use codings::{base64_text, bytes_of_base64, bytes_of_hex, hex_text};
+pub use laws::{base64_is_exact, hex_is_exact};
+pub use reading::read_json;
+pub use serde_json::{Map, Value};
+pub use writing::write_json;
