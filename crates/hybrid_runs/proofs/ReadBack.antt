@@ -102,7 +102,7 @@ unpacked (b ∷ bits) m count h small =
     ∙ packed_more 1 (suc (length bits)) (length bits) _ count refl (omega arith)
     ∙ rw (low, high) (ap (λ xs. b ∷ xs) (unpacked bits m (count - 1) (omega arith) (λ i. small (suc i))))
 
-length-grouped : (g : ℕ) (bits : List ℕ) → length (grouped g bits) ≡ g
+pub length-grouped : (g : ℕ) (bits : List ℕ) → length (grouped g bits) ≡ g
 length-grouped zero bits = refl
 length-grouped (suc g) bits = ap suc (length-grouped g (drop 8 bits))
 
@@ -147,3 +147,18 @@ pub kept_more : (old vs more pushed : List ℕ) → take (length old) vs ≡ old
 kept_more old vs more pushed kept e =
     let fits : length old ≤ length vs = omega (arith, ap length kept, length-take (length old) vs) in
     ap (take (length old)) e ∙ take-append-le (length old) vs pushed fits ∙ kept
+
+-- ---- how long a run is
+length-varint_text : (n number : ℕ) → length (varint_text n number) ≤ n
+length-varint_text zero number = omega arith
+length-varint_text (suc n) number = elim (cases_lt number 128) [
+  | inl low ↦ rw (lt_true number 128 low) (omega arith)
+  | inr high ↦ rw (lt_false number 128 high) (omega (arith, length-varint_text n (number / 128)))
+]
+
+pub length-run_text : (bits : List ℕ) → length (run_text bits) ≡ length (header_text (length bits)) + groups_of (length bits)
+length-run_text bits = length-append (header_text (length bits)) (bits_text bits) ∙ ap (λ n. length (header_text (length bits)) + n) (length-grouped (groups_of (length bits)) bits)
+
+pub length-run_text_small : (bits : List ℕ) → length (run_text bits) ≤ groups_of (length bits) + 5
+unfolding header_text
+length-run_text_small bits = rw (length-run_text bits) (omega (arith, length-varint_text 5 (2 * groups_of (length bits) + 1)))

@@ -1,4 +1,4 @@
-ghost use Rattle.std.specs.Prelude.{◌≡◌, ◌+◌, ◌*◌, ◌^◌, ◌≤◌, ◌<◌, ◌++◌, length, take, OnOk, OnErr};
+ghost use Rattle.std.specs.Prelude.{◌≡◌, ℕ, List, ◌+◌, ◌*◌, ◌^◌, ◌≤◌, ◌<◌, ◌++◌, length, take, OnOk, OnErr};
 ghost use Rattle.hybrid_runs.specs.Written as written;
 
 use pme_base::OutOfMemory;
@@ -20,7 +20,7 @@ pub fn write_run(bits: &[u8], into: &mut Vec<u8>) -> Result<(), OutOfMemory>
 #[tactic(auto, unfolding(crate::specs::Written::header_text))]
 pub fn run_length(count: usize) -> u32
     requires { count ≤ 16777216 }
-    ensures size { result ≡ length (written.header_text count) + written.groups_of count }
+    ensures { (bits : List ℕ) → length bits ≡ count → length (written.run_text bits) ≡ result }
 {
     let groups = groups_of(count) as u32;
     varint_length(5, 2 * groups + 1) + groups
@@ -29,7 +29,6 @@ pub fn run_length(count: usize) -> u32
 /// Adds bits to the end of `into`, eight in a byte from the least on, and the bits that are left over 0. Of each
 /// item its lowest bit counts. A refusal leaves what was there in front.
 pub fn write_bits(bits: &[u8], into: &mut Vec<u8>) -> Result<(), OutOfMemory>
-    requires { length bits.now ≤ 16777216 }
     ensures appended { OnOk result (into.new.items ≡ into.old.items ++ written.bits_text bits.now) }
     ensures kept { OnErr result (take (length into.old.items) into.new.items ≡ into.old.items) }
 {
@@ -44,7 +43,6 @@ pub fn write_bits(bits: &[u8], into: &mut Vec<u8>) -> Result<(), OutOfMemory>
 }
 
 fn groups_of(count: usize) -> usize
-    requires { count ≤ 16777216 }
     ensures { result ≡ written.groups_of count }
 {
     count.div_ceil(8)
