@@ -1,0 +1,6 @@
+pub mod Cells
+pub mod Columns
+pub mod Pages
+pub mod PlacesInside
+pub mod Plain
+pub mod RanksInside
