@@ -34,9 +34,10 @@ pub fn hex_line(alloc: Global, bytes: &[u8]) -> Result<Bytes, OutOfMemory>
         Ok(text) => text,
         Err(_) => return Err(OutOfMemory),
     };
-    let mut line = Bytes::from_vec(text.into_bytes());
+    let mut line = text.into_bytes();
+    line.reserve_exact(1)?;
     line.push(b'\n')?;
-    Ok(line)
+    Ok(Bytes::from_vec(line))
 }
 
 /// Ends a command that prints one text: prints it, or stops by what refused it, which is about the file `name`.
