@@ -7,7 +7,7 @@ use Rattle.thrift_compact.specs.declared.tree.TMap.{TMap}
 use Rattle.thrift_compact.specs.declared.tree.TFields.{TFields}
 use Rattle.thrift_compact.specs.Answers.{mapped, Adds}
 use Rattle.thrift_compact.specs.declared.kind.TKind.{TKind}
-use Rattle.thrift_compact.specs.Laws.{ItemsLeft, items_more, items_same, items_end, EntriesLeft, entries_more, entries_no_value, entries_same, entries_end, FieldsLeft, fields_more, fields_same, fields_end}
+use Rattle.thrift_compact.specs.Laws.{ItemsLeft, items_more, items_same, items_end, EntriesLeft, entries_more, entries_no_key, entries_no_value, entries_same, entries_end, FieldsLeft, fields_more, fields_same, fields_end}
 use Rattle.thrift_compact.specs.Reading.{Fault, Read, element, nest, size_at, map_kinds, field_head}
 use Rattle.thrift_compact.specs.Reading.{value as value_at}
 use Rattle.thrift_compact.specs.Tree.{Tree, Trees, no_trees, tree, Pairs, no_pairs, pair, Fields, no_fields, field}
@@ -109,6 +109,11 @@ pair_pushed vs pushed k v whole key value count turn bs r s early now e d added 
     let next = entries_more (pairs_before vs) whole key value (count - (turn + 1)) bs (view k) (view v) r s at_one e d in
     let after = entries_same (λ ps. pairs_before vs (pair (view k) (view v) ps)) (pairs_before (vs ++ (k, v) ∷ [])) whole key value (count - (turn + 1)) s (pairs_pushed vs (k, v)) next in
     subst (λ (us : List (TVal × TVal)). EntriesLeft (pairs_before us) whole key value (count - (turn + 1)) s) (sym added) after
+
+pub pair_no_key : {X : Type 0} (make : Pairs → X) (whole : Result (X × List ℕ) Fault) (key value : Read Tree) (count turn : ℕ) (bs : List ℕ) (f : Fault) → turn < count → EntriesLeft make whole key value (count - turn) bs → key bs ≡ Err f → whole ≡ Err f
+pair_no_key make whole key value count turn bs f early now e =
+    let left : count - turn ≡ suc (count - (turn + 1)) = omega arith in
+    entries_no_key make whole key value (count - (turn + 1)) bs f (subst (λ (n : ℕ). EntriesLeft make whole key value n bs) left now) e
 
 pub pair_no_value : {X : Type 0} (make : Pairs → X) (whole : Result (X × List ℕ) Fault) (key value : Read Tree) (count turn : ℕ) (bs : List ℕ) (k : Tree) (r : List ℕ) (f : Fault) → turn < count → EntriesLeft make whole key value (count - turn) bs → key bs ≡ Ok (k, r) → value r ≡ Err f → whole ≡ Err f
 pair_no_value make whole key value count turn bs k r f early now e d =

@@ -23,6 +23,10 @@ use std::alloc::Global;
 /// The structs, lists, sets and maps that may be open, one in the other.
 const ROOM: u32 = 32;
 
+/// A list or a map takes room at once for as many as it names, up to this many; for more it grows as they come, since
+/// a count may promise more than there is.
+const FEW: u32 = 4;
+
 /// Reads the struct at the front of `bytes`: its tree, and how many bytes it takes. A fault is told with its offset
 /// from the front of `bytes`.
 pub fn read_tree(alloc: Global, bytes: &[u8]) -> Result<(TVal, usize), ThriftRefusal>
@@ -104,7 +108,7 @@ fn read_list(alloc: Global, cursor: &mut Cursor<'_>, room: u32) -> Result<TList,
 {
     let inner = cursor.enter(room)?;
     let (kind, count) = list_head(cursor)?;
-    let mut list = TList::new(alloc);
+    let mut list = TList::with_room(alloc, count.min(FEW) as usize)?;
     for _turn in 0..count {
         let item = read_element(alloc, cursor, inner, kind)?;
         list.push(item)?;
@@ -119,11 +123,11 @@ fn read_map(alloc: Global, cursor: &mut Cursor<'_>, room: u32) -> Result<TMap, S
 {
     let inner = cursor.enter(room)?;
     let count = cursor.size()?;
-    let mut map = TMap::new(alloc);
     if count == 0 {
-        return Ok(map);
+        return Ok(TMap::new(alloc));
     }
     let (key_kind, value_kind) = map_kinds(cursor)?;
+    let mut map = TMap::with_room(alloc, count.min(FEW) as usize)?;
     for _turn in 0..count {
         let key = read_element(alloc, cursor, inner, key_kind)?;
         let value = read_element(alloc, cursor, inner, value_kind)?;
@@ -140,7 +144,7 @@ fn read_fields(alloc: Global, cursor: &mut Cursor<'_>, room: u32) -> Result<TFie
 {
     let inner = cursor.enter(room)?;
     let mut ids = Ids::new(alloc);
-    let mut fields = TFields::new(alloc);
+    let mut fields = TFields::with_room(alloc, 1)?;
     while let Some((id, kind)) = field_head(cursor, &mut ids)? {
         let value = read_value(alloc, cursor, inner, kind)?;
         fields.push((id, value))?;

@@ -1,4 +1,4 @@
-ghost use Rattle.std.specs.Prelude.{◌≡◌, [], ◌∷◌, ◌++◌, ◌==◌, length, slice_get, OnOk, OnErr};
+ghost use Rattle.std.specs.Prelude.{◌≡◌, [], ◌∷◌, ◌++◌, ◌==◌, length, slice_get, OnOk, OnErr, IfOk};
 ghost use Rattle.std.specs.Option.{option_copied};
 
 use pme_base::{Bytes, OutOfMemory};
@@ -54,6 +54,15 @@ impl TList {
         }
     }
 
+    // No items, with room for `count` of them.
+    pub(crate) fn with_room(alloc: Global, count: usize) -> Result<TList, OutOfMemory>
+        ensures { IfOk result (λ made. made.items ≡ []) }
+    {
+        Ok(TList {
+            items: Items::from_vec(Vec::with_capacity(alloc, count)?),
+        })
+    }
+
     /// Adds an item at the end.
     pub fn push(&mut self, item: TVal) -> Result<(), OutOfMemory>
         ensures ok { OnOk result (self.new.items ≡ self.old.items ++ item ∷ []) }
@@ -95,6 +104,15 @@ impl TMap {
         }
     }
 
+    // No pairs, with room for `count` of them.
+    pub(crate) fn with_room(alloc: Global, count: usize) -> Result<TMap, OutOfMemory>
+        ensures { IfOk result (λ made. made.pairs ≡ []) }
+    {
+        Ok(TMap {
+            pairs: Items::from_vec(Vec::with_capacity(alloc, count)?),
+        })
+    }
+
     /// Adds a pair of a key and a value at the end.
     pub fn push(&mut self, pair: (TVal, TVal)) -> Result<(), OutOfMemory>
         ensures ok { OnOk result (self.new.pairs ≡ self.old.pairs ++ pair ∷ []) }
@@ -134,6 +152,15 @@ impl TFields {
         TFields {
             fields: Items::new(alloc),
         }
+    }
+
+    // No fields, with room for `count` of them.
+    pub(crate) fn with_room(alloc: Global, count: usize) -> Result<TFields, OutOfMemory>
+        ensures { IfOk result (λ made. made.fields ≡ []) }
+    {
+        Ok(TFields {
+            fields: Items::from_vec(Vec::with_capacity(alloc, count)?),
+        })
     }
 
     /// Adds a field, its id and its value, at the end.

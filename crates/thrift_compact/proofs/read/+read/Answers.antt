@@ -3,12 +3,12 @@ use Rattle.std.proofs.lemmas.Int.{to_z-of_z}
 use Rattle.std.proofs.lemmas.Result.{err_from_is_err_and}
 use Rattle.thrift_compact.specs.Answers.{fails_on}
 use Rattle.thrift_compact.specs.Laws.{fields_no_head, fields_no_value}
-use Rattle.thrift_compact.proofs.Built.{item_pushed, list_done, map_begun, pair_pushed, pair_no_value, map_done, struct_begun, field_pushed, struct_done}
+use Rattle.thrift_compact.proofs.Built.{item_pushed, list_done, map_begun, pair_pushed, pair_no_key, pair_no_value, map_done, struct_begun, field_pushed, struct_done}
 use Rattle.thrift_compact.proofs.read.+read.Goals as goal
 
 pub read_fields-loop-fields-init : goal.read_fields-loop-fields-init
 read_fields-loop-fields-init t c =
-    (struct_begun _ _ _ _ _ c.in_ok-inner.ensures c.new-ids.ensures c.new-fields.ensures, omega arith)
+    (struct_begun _ _ _ _ _ c.in_ok-inner.ensures c.new-ids.ensures c.in_ok-fields.ensures, omega arith)
 
 pub read_fields-returns-in_err-id-clause-value : goal.read_fields-returns-in_err-id-clause-value
 read_fields-returns-in_err-id-clause-value t c =
@@ -44,7 +44,12 @@ read_list-returns-clause-value t c =
 
 pub read_map-loop-turn-init : goal.read_map-loop-turn-init
 read_map-loop-turn-init t c =
-    (map_begun _ _ _ _ _ _ _ _ _ c.in_ok-inner.ensures c.in_ok-count.ensures.value (omega arith) c.in_ok-key_kind.ensures.value c.new-map.ensures, omega (arith, c.in_ok-count.ensures.shorter, c.in_ok-key_kind.ensures.shorter))
+    (map_begun _ _ _ _ _ _ _ _ _ c.in_ok-inner.ensures c.in_ok-count.ensures.value (omega arith) c.in_ok-key_kind.ensures.value c.in_ok-map.ensures, omega (arith, c.in_ok-count.ensures.shorter, c.in_ok-key_kind.ensures.shorter))
+
+pub read_map-returns-in_err-key-clause-value : goal.read_map-returns-in_err-key-clause-value
+read_map-returns-in_err-key-clause-value t c =
+    let p = err_from_is_err_and c.from_residual-in_err-key.result c.from_residual-in_err-key.ensures.1 in
+    rw (p.1, p.2) (fails_on _ _ _ (λ f e. pair_no_key _ _ _ _ _ _ _ f c.loop-turn-test.true c.loop-turn.invariant.0 e) c.in_err-key.ensures.value)
 
 pub read_map-returns-in_err-value-clause-value : goal.read_map-returns-in_err-value-clause-value
 read_map-returns-in_err-value-clause-value t c =
