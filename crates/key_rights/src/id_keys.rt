@@ -131,12 +131,10 @@ fn key_of_text(alloc: Global, text: &str) -> Result<Option<AesKey>, OutOfMemory>
 fn key_among(keys: &[IdKey], id: &[u8]) -> KeyAnswer
     ensures { result ≡ file.key_by_id keys.now id.now }
 {
-    let mut rest = keys;
-    while let [first, after @ ..] = rest {
-        if first.id.as_slice() == id {
-            return KeyAnswer::Held(copied(&first.key));
+    for entry in keys {
+        if entry.id.as_slice() == id {
+            return KeyAnswer::Held(copied(&entry.key));
         }
-        rest = after;
     }
     KeyAnswer::Absent
 }
