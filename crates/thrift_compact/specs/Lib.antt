@@ -1,5 +1,6 @@
 pub mod Answers
 pub mod Grammar
+pub mod Held
 pub mod Kinds
 pub mod Laws
 pub mod Reading
