@@ -3,6 +3,7 @@ pub mod Calls
 pub mod Described
 pub mod Faults
 pub mod Grammar
+pub mod Held
 pub mod Kinds
 pub mod Laws
 pub mod Ordered

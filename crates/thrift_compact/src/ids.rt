@@ -1,15 +1,30 @@
 // The ids of a struct's fields so far.
-ghost use Rattle.std.specs.Prelude.{◌≡◌, [], ◌∷◌, ◌++◌, OnOk, OnErr};
+ghost use Rattle.std.specs.Prelude.{◌≡◌, true, false, ◌<◌, ◌≤◌, [], ◌∷◌, ◌++◌, length, OnOk, OnErr, IfOk};
+ghost use Rattle.thrift_compact.specs.Held.{ids_held};
 ghost use Rattle.thrift_compact.specs.Reading.{is_among, last as last_of};
 
 use pme_base::OutOfMemory;
 use std::alloc::Global;
+use std::collections::BTreeSet;
 use std::marker::Model;
 
-/// The ids of a struct's fields so far. A contract sees them as a list in the order in which they came.
+/// So many ids are searched one by one.
+const FEW: usize = 32;
+
+/// The ids of a struct's fields so far. A contract sees them as a list in the order in which they came. An id above
+/// all others is known to be new at once, and the first 32 ids take no memory.
 #[derive(Drop)]
 pub(crate) struct Ids {
-    items: Vec<i16>,
+    alloc: Global,
+    last: i16,
+    greatest: i32,
+    held: Held,
+}
+
+#[derive(Drop)]
+enum Held {
+    Few(Few),
+    Many(Many),
 }
 
 impl Model for Ids {
@@ -17,40 +32,193 @@ impl Model for Ids {
 
     ghost Value = { List ℤ };
 
-    ghost view = { λ ids. ids.items.items };
+    ghost use Rattle.thrift_compact.specs.Held.{ids_held, IsKept};
+
+    ghost view = { λ ids. ids_held ids.held };
+
+    ghost invariant = { λ ids. IsKept ids.last ids.greatest (ids_held ids.held) };
 }
 
 impl Ids {
+    #[inline(always)]
     pub(crate) fn new(alloc: Global) -> Ids
         ensures { result ≡ [] }
     {
         Ids {
-            items: Vec::new(alloc),
+            alloc,
+            last: 0,
+            greatest: -32_769,
+            held: Held::Few(Few::new()),
         }
     }
 
     /// The last id, or 0 where there is none.
+    #[inline(always)]
     pub(crate) fn last(&self) -> i16
         ensures { result ≡ last_of self.now }
     {
-        match self.items.last() {
-            Some(id) => *id,
-            None => 0,
-        }
+        self.last
     }
 
     /// Whether the id came before.
+    #[inline(always)]
     pub(crate) fn has(&self, id: i16) -> bool
         ensures { result ≡ is_among id self.now }
     {
-        holds(self.items.as_slice(), id)
+        id as i32 <= self.greatest && self.held.has(id)
     }
 
+    #[inline(always)]
     pub(crate) fn push(&mut self, id: i16) -> Result<(), OutOfMemory>
         ensures ok { OnOk result (self.new ≡ self.old ++ id ∷ []) }
         ensures unchanged { OnErr result (self.new ≡ self.old) }
     {
-        self.items.push(id)?;
+        self.held.push(self.alloc, id)?;
+        self.last = id;
+        self.greatest = self.greatest.max(id as i32);
+        Ok(())
+    }
+}
+
+impl Held {
+    fn has(&self, id: i16) -> bool
+        ensures { result ≡ is_among id (ids_held self.now) }
+    {
+        match self {
+            Held::Few(few) => few.has(id),
+            Held::Many(many) => many.has(id),
+        }
+    }
+
+    #[inline(always)]
+    fn push(&mut self, alloc: Global, id: i16) -> Result<(), OutOfMemory>
+        ensures ok { OnOk result (ids_held self.new ≡ ids_held self.old ++ id ∷ []) }
+        ensures unchanged { OnErr result (ids_held self.new ≡ ids_held self.old) }
+    {
+        match self {
+            Held::Few(few) => {
+                if few.push(id) {
+                    return Ok(());
+                }
+                let mut many = Many::of(alloc, few.as_slice())?;
+                many.push(id)?;
+                *self = Held::Many(many);
+                Ok(())
+            }
+            Held::Many(many) => many.push(id),
+        }
+    }
+}
+
+/// Up to 32 ids, in place.
+#[derive(Drop)]
+struct Few {
+    items: [i16; FEW],
+    count: usize,
+}
+
+impl Model for Few {
+    ghost use Rattle.std.specs.Prelude.{List, ℤ, take, ◌≤◌};
+
+    ghost Value = { List ℤ };
+
+    ghost view = { λ few. take few.count few.items };
+
+    ghost invariant = { λ few. few.count ≤ 32 };
+}
+
+impl Few {
+    #[inline(always)]
+    fn new() -> Few
+        ensures { result ≡ [] }
+    {
+        Few {
+            items: [0; FEW],
+            count: 0,
+        }
+    }
+
+    fn as_slice(&self) -> &[i16]
+        ensures { result.now ≡ self.now }
+    {
+        &self.items[..self.count]
+    }
+
+    fn has(&self, id: i16) -> bool
+        ensures { result ≡ is_among id self.now }
+    {
+        holds(self.as_slice(), id)
+    }
+
+    /// Takes one more id; false where there is no room for it.
+    #[inline(always)]
+    fn push(&mut self, id: i16) -> bool
+        ensures taken { result ≡ true → self.new ≡ self.old ++ id ∷ [] }
+        ensures full { result ≡ false → self.new ≡ self.old }
+    {
+        if self.count < FEW {
+            self.items[self.count] = id;
+            self.count += 1;
+            true
+        } else {
+            false
+        }
+    }
+}
+
+/// Any number of ids, with an index of them.
+#[derive(Drop)]
+struct Many {
+    items: Vec<i16>,
+    index: BTreeSet<i16>,
+}
+
+impl Model for Many {
+    ghost use Rattle.std.specs.Prelude.{List, ℤ};
+
+    ghost Value = { List ℤ };
+
+    ghost use Rattle.thrift_compact.specs.Held.{IsIndex};
+
+    ghost view = { λ many. many.items.items };
+
+    ghost invariant = { λ many. IsIndex many.index many.items.items };
+}
+
+impl Many {
+    fn new(alloc: Global) -> Many
+        ensures { result ≡ [] }
+    {
+        Many {
+            items: Vec::new(alloc),
+            index: BTreeSet::new(alloc),
+        }
+    }
+
+    /// The same ids in this form.
+    fn of(alloc: Global, ids: &[i16]) -> Result<Many, OutOfMemory>
+        ensures { IfOk result (λ many. many ≡ ids.now) }
+    {
+        let mut many = Many::new(alloc);
+        for id in ids {
+            many.push(*id)?;
+        }
+        Ok(many)
+    }
+
+    fn has(&self, id: i16) -> bool
+        ensures { result ≡ is_among id self.now }
+    {
+        self.index.contains(&id)
+    }
+
+    fn push(&mut self, id: i16) -> Result<(), OutOfMemory>
+        ensures ok { OnOk result (self.new ≡ self.old ++ id ∷ []) }
+        ensures unchanged { OnErr result (self.new ≡ self.old) }
+    {
+        self.items.reserve(1)?;
+        self.index.insert(id)?;
+        self.items.push_reserved(id);
         Ok(())
     }
 }
