@@ -15,6 +15,8 @@ mod plain;
 mod ranks;
 mod table;
 mod table_column;
+#[cfg(test)]
+mod tests;
 
 pub use cell_ref::CellRef;
 pub use dictionary::Dictionary;
