@@ -3,6 +3,7 @@ pub mod Grammar
 pub mod Held
 pub mod Kinds
 pub mod Laws
+pub mod Opened
 pub mod Reading
 pub mod Spelling
 pub mod Standing
