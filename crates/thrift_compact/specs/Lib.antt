@@ -8,6 +8,7 @@ pub mod Kinds
 pub mod Laws
 pub mod Ordered
 pub mod Proper
+pub mod Opened
 pub mod Reading
 pub mod Spelled
 pub mod Spelling
