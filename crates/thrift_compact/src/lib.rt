@@ -11,6 +11,8 @@ mod show;
 #[cfg(test)]
 mod show_tests;
 mod spelling_laws;
+#[cfg(test)]
+mod spelling_tests;
 mod tree;
 mod writer;
 #[cfg(test)]
