@@ -1,11 +1,11 @@
 -- The calls of a tree write its spelling.
-use Rattle.std.proofs.Common.{◌≡◌, ℕ, suc, ◌+◌, ◌-◌, ℤ, pos, refl, sym, ◌∙◌, ap, subst, List, [], ◌∷◌, ◌++◌, append_assoc, append-nil, length, Option, Some, None, arith, true, FitsSigned, w16, int_lt}
+use Rattle.std.proofs.Common.{◌≡◌, ℕ, zero, suc, ◌+◌, ◌-◌, ◌<◌, ℤ, pos, refl, sym, ◌∙◌, ap, subst, List, [], ◌∷◌, ◌++◌, append_assoc, append-nil, length, Option, Some, None, arith, true, FitsSigned, w16, int_lt}
 use Rattle.thrift_compact.specs.declared.kind.TKind.{TKind}
 use Rattle.thrift_compact.specs.declared.kind.TKind.TheVariants as kind
 use Rattle.thrift_compact.specs.declared.writer.Part.{Part}
 use Rattle.thrift_compact.specs.declared.writer.Part.TheVariants as part
 use Rattle.thrift_compact.specs.Calls as call
-use Rattle.thrift_compact.specs.Described.{field_calls, value_calls, item_calls, one_item_calls, calls_of, IsDescribed, AreFields, AreItems, IsItem, IsAbove, Runs, WritesCanonically, WritesWhatIsDescribed}
+use Rattle.thrift_compact.specs.Described.{field_calls, value_calls, item_calls, one_item_calls, calls_of, IsDescribed, AreFields, AreItems, IsItem, IsAbove, Runs, made, WritesCanonically, WritesWhatIsDescribed}
 use Rattle.thrift_compact.specs.Spelling.{spelling, items_spelling, fields_spelling, field_head_of, list_head_of, items_kind, element_kind, within, ordered, ordered_items, ordered_parts, below_ids}
 use Rattle.thrift_compact.specs.Ordered.{ascend, floor_of}
 use Rattle.thrift_compact.proofs.Arranged.{ascending_new}
@@ -26,8 +26,22 @@ runs-append (x ∷ cs) ds a b c first second = (first.0, runs-append cs ds (afte
 pub runs-to : (cs : List call.Call) (a b c : Draft) → b ≡ c → Runs cs a b → Runs cs a c
 runs-to cs a b c e run = subst (λ d. Runs cs a d) e run
 
+pub made-append : (cs ds : List call.Call) (a : Draft) → made (cs ++ ds) a ≡ made ds (made cs a)
+made-append [] ds a = refl
+made-append (c ∷ cs) ds a = made-append cs ds (after c a)
+
+-- where calls lead is what they have made
+pub runs-made : (cs : List call.Call) (a b : Draft) → Runs cs a b → made cs a ≡ b
+runs-made [] a b run = run
+runs-made (c ∷ cs) a b run = runs-made cs (after c a) b run.1
+
 abbrev pub draft : List ℕ → Part → List Part → Draft
 draft out inner outer = record { out = out; inner = inner; outer = outer }
+
+-- a list with items to come is the innermost part
+pub list-is-open : (out : List ℕ) (k : TKind) (n : ℕ) (outer : List Part) → 0 < n → resumed out (part.List k n ∷ outer) ≡ draft out (part.List k n) outer
+list-is-open out k zero outer some = absurd (omega (arith, some))
+list-is-open out k (suc n) outer some = refl
 
 -- the list's own kind is named: no list of described items is one of booleans
 pub named : (room : ℕ) (ts : Trees) → AreItems room (items_kind ts) ts → named_kind (items_kind ts) (count ts) ≡ items_kind ts

@@ -100,6 +100,11 @@ abbrev pub Runs : List call.Call → Draft → Draft → Type 0
 Runs [] from to = from ≡ to
 Runs (c ∷ calls) from to = May c from × Runs calls (after c from) to
 
+-- what is written after some calls
+abbrev pub made : List call.Call → Draft → Draft
+made [] from = from
+made (c ∷ calls) from = made calls (after c from)
+
 -- the calls of each struct that they describe may be made, and write its canonical spelling
 abbrev pub WritesCanonically : Type 0
 WritesCanonically =
