@@ -6,9 +6,9 @@ pub mod Grammar
 pub mod Held
 pub mod Kinds
 pub mod Laws
+pub mod Opened
 pub mod Ordered
 pub mod Proper
-pub mod Opened
 pub mod Reading
 pub mod Spelled
 pub mod Spelling
