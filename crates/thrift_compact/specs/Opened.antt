@@ -1,7 +1,7 @@
 -- The first step of a caller that reads a struct or a list by a typed reader: what is left right after it was opened.
 -- Laws has the steps that follow.
-use Rattle.std.specs.Prelude.{◌≡◌, ℕ, suc, ◌-◌, ◌<◌, List, [], ◌∷◌, length, Result, Ok, Err, refl}
-use Rattle.std.proofs.Common.{sym, ap, ◌∙◌, subst, arith}
+use Rattle.std.specs.Prelude.{◌≡◌, ℕ, suc, ◌-◌, ◌<◌, List, [], length, Ok, refl}
+use Rattle.std.proofs.Common.{sym, ap, subst, arith}
 use Rattle.thrift_compact.specs.declared.frame.Frame.{Frame}
 use Rattle.thrift_compact.specs.declared.frame.Frame.TheVariants as frame
 use Rattle.thrift_compact.specs.declared.kind.TKind.{TKind}
