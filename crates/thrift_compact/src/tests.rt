@@ -1,6 +1,6 @@
 // Bytes and what reading them answers. Expected answers are worked out by hand from Thrift's compact protocol
 // (thrift-compact-protocol.md) and the rules on faults that the crate states.
-ghost use Rattle.std.specs.Prelude.{OnOk};
+ghost use Rattle.std.specs.Prelude.{◌≡◌};
 ghost use Rattle.thrift_compact.specs.Standing.{IsStruct, IsWholeKind};
 
 use crate::{FieldHead, Reader, TKind, ThriftRefusal, read_tree};
@@ -165,127 +165,125 @@ fn tells_lengths_and_faults(rt: HostRuntime) -> Result<(), Fail> {
 }
 
 /// Reads the head of the next field, which is the one expected.
-fn expect_field(rt: &impl Abort, reader: &mut Reader<'_>, id: i16, kind: TKind) -> Result<(), Fail>
+fn expect_field(rt: &impl Abort, reader: &mut Reader<'_>, id: i16, kind: TKind)
     requires { IsStruct reader.old.inner }
-    ensures { OnOk result (IsStruct reader.new.inner) }
+    ensures { IsStruct reader.new.inner }
 {
     match reader.field() {
-        Ok(Some(head)) => {
-            assert_eq!(rt; head, FieldHead { id, kind });
-            Ok(())
-        }
-        _ => Err(Fail::from("no field")),
+        Ok(Some(head)) => assert_eq!(rt; head, FieldHead { id, kind }),
+        _ => panic!(rt; "no field"),
     }
 }
 
 /// Reads a field with a whole number.
-fn expect_whole(
-    rt: &impl Abort,
-    reader: &mut Reader<'_>,
-    id: i16,
-    kind: TKind,
-    number: i64,
-) -> Result<(), Fail>
+fn expect_whole(rt: &impl Abort, reader: &mut Reader<'_>, id: i16, kind: TKind, number: i64)
     requires inside { IsStruct reader.old.inner }
     requires number { IsWholeKind kind }
-    ensures { OnOk result (IsStruct reader.new.inner) }
+    ensures { IsStruct reader.new.inner }
 {
-    expect_field(rt, reader, id, kind)?;
+    expect_field(rt, reader, id, kind);
     match reader.whole(kind) {
-        Ok(found) => {
-            assert_eq!(rt; found, number);
-            Ok(())
-        }
-        Err(_) => Err(Fail::from("no number")),
+        Ok(found) => assert_eq!(rt; found, number),
+        Err(_) => panic!(rt; "no number"),
     }
 }
 
 /// Passes a field.
-fn expect_any(rt: &impl Abort, reader: &mut Reader<'_>, id: i16, kind: TKind) -> Result<(), Fail>
+fn expect_any(rt: &impl Abort, reader: &mut Reader<'_>, id: i16, kind: TKind)
     requires { IsStruct reader.old.inner }
-    ensures { OnOk result (IsStruct reader.new.inner) }
+    ensures { IsStruct reader.new.inner }
 {
-    expect_field(rt, reader, id, kind)?;
+    expect_field(rt, reader, id, kind);
     match reader.skip(kind) {
-        Ok(()) => Ok(()),
-        Err(_) => Err(Fail::from("not passed")),
+        Ok(()) => {}
+        Err(_) => panic!(rt; "not passed"),
     }
 }
 
-/// Reads the binary `abc` and the list `[1, 2]`, fields 8 and 9.
-fn expect_parts(rt: &impl Abort, reader: &mut Reader<'_>) -> Result<(), Fail>
+/// Reads the binary `abc`, the field 8.
+fn expect_binary(rt: &impl Abort, reader: &mut Reader<'_>)
     requires { IsStruct reader.old.inner }
-    ensures { OnOk result (IsStruct reader.new.inner) }
+    ensures { IsStruct reader.new.inner }
 {
-    expect_field(rt, reader, 8, TKind::Binary)?;
+    expect_field(rt, reader, 8, TKind::Binary);
     match reader.binary() {
         Ok(bytes) => assert_eq!(rt; bytes, b"abc".as_slice()),
-        Err(_) => return Err(Fail::from("no binary")),
+        Err(_) => panic!(rt; "no binary"),
     }
-    expect_field(rt, reader, 9, TKind::List)?;
-    expect_list(rt, reader)
 }
 
-fn expect_list(rt: &impl Abort, reader: &mut Reader<'_>) -> Result<(), Fail>
-    requires { IsStruct reader.old.inner }
-    ensures { OnOk result (IsStruct reader.new.inner) }
+/// Reads an element of a list.
+fn expect_element(rt: &impl Abort, reader: &mut Reader<'_>, number: i64)
+    ensures inner { reader.new.inner ≡ reader.old.inner }
+    ensures outer { reader.new.outer ≡ reader.old.outer }
 {
+    match reader.whole(TKind::I32) {
+        Ok(found) => assert_eq!(rt; found, number),
+        Err(_) => panic!(rt; "no element"),
+    }
+}
+
+/// Reads the list `[1, 2]`, the field 9.
+fn expect_list(rt: &impl Abort, reader: &mut Reader<'_>)
+    requires { IsStruct reader.old.inner }
+    ensures { IsStruct reader.new.inner }
+{
+    expect_field(rt, reader, 9, TKind::List);
     match reader.list_begin() {
         Ok((kind, count)) => {
             assert_eq!(rt; kind, TKind::I32);
             assert_eq!(rt; count, 2);
         }
-        Err(_) => return Err(Fail::from("no list")),
+        Err(_) => panic!(rt; "no list"),
     }
-    let first = match reader.whole(TKind::I32) {
-        Ok(number) => number,
-        Err(_) => return Err(Fail::from("no number")),
-    };
-    let second = match reader.whole(TKind::I32) {
-        Ok(number) => number,
-        Err(_) => return Err(Fail::from("no number")),
-    };
-    assert_eq!(rt; first, 1);
-    assert_eq!(rt; second, 2);
+    expect_element(rt, reader, 1);
+    expect_element(rt, reader, 2);
     reader.list_end();
-    Ok(())
+}
+
+fn expect_begin(rt: &impl Abort, reader: &mut Reader<'_>)
+    ensures { IsStruct reader.new.inner }
+{
+    match reader.struct_begin() {
+        Ok(()) => {}
+        Err(_) => panic!(rt; "no struct"),
+    }
 }
 
 /// Reads the struct of field 12, with the field 1.
-fn expect_struct(rt: &impl Abort, reader: &mut Reader<'_>) -> Result<(), Fail>
+fn expect_struct(rt: &impl Abort, reader: &mut Reader<'_>)
     requires { IsStruct reader.old.inner }
 {
-    expect_field(rt, reader, 12, TKind::Struct)?;
-    match reader.struct_begin() {
-        Ok(()) => {}
-        Err(_) => return Err(Fail::from("no struct")),
-    }
-    expect_whole(rt, reader, 1, TKind::I32, 1)?;
+    expect_field(rt, reader, 12, TKind::Struct);
+    expect_begin(rt, reader);
+    expect_whole(rt, reader, 1, TKind::I32, 1);
     match reader.field() {
-        Ok(None) => Ok(()),
-        _ => Err(Fail::from("a field")),
+        Ok(None) => {}
+        _ => panic!(rt; "a field"),
     }
+}
+
+fn read_each_kind(rt: &impl Abort, reader: &mut Reader<'_>) {
+    expect_begin(rt, reader);
+    expect_any(rt, reader, 1, TKind::True);
+    expect_any(rt, reader, 2, TKind::False);
+    expect_whole(rt, reader, 3, TKind::I8, -1);
+    expect_whole(rt, reader, 4, TKind::I16, -2);
+    expect_whole(rt, reader, 5, TKind::I32, 5);
+    expect_whole(rt, reader, 6, TKind::I64, i64::MIN);
+    expect_any(rt, reader, 7, TKind::Double);
+    expect_binary(rt, reader);
+    expect_list(rt, reader);
+    expect_any(rt, reader, 10, TKind::Set);
+    expect_any(rt, reader, 11, TKind::Map);
+    expect_struct(rt, reader);
 }
 
 #[test]
 fn reads_a_field_of_each_kind(rt: HostRuntime) -> Result<(), Fail> {
     let bytes = bytes_of(rt.alloc(), EACH_KIND)?;
     let mut reader = Reader::new(rt.alloc(), bytes.as_slice());
-    match reader.struct_begin() {
-        Ok(()) => {}
-        Err(_) => return Err(Fail::from("no struct")),
-    }
-    expect_any(&rt, &mut reader, 1, TKind::True)?;
-    expect_any(&rt, &mut reader, 2, TKind::False)?;
-    expect_whole(&rt, &mut reader, 3, TKind::I8, -1)?;
-    expect_whole(&rt, &mut reader, 4, TKind::I16, -2)?;
-    expect_whole(&rt, &mut reader, 5, TKind::I32, 5)?;
-    expect_whole(&rt, &mut reader, 6, TKind::I64, i64::MIN)?;
-    expect_any(&rt, &mut reader, 7, TKind::Double)?;
-    expect_parts(&rt, &mut reader)?;
-    expect_any(&rt, &mut reader, 10, TKind::Set)?;
-    expect_any(&rt, &mut reader, 11, TKind::Map)?;
-    expect_struct(&rt, &mut reader)?;
+    read_each_kind(&rt, &mut reader);
     assert_eq!(rt; reader.offset(), 50);
     Ok(())
 }
