@@ -1,3 +1,5 @@
+ghost use Rattle.std.specs.Prelude.{◌<◌};
+
 use crate::{TKind, Writer};
 use pme_base::{Bytes, OutOfMemory};
 use std::alloc::Global;
@@ -89,49 +91,16 @@ fn empty_lists(alloc: Global) -> Result<Bytes, OutOfMemory> {
     Ok(writer.finish())
 }
 
-/// {1: [14 times i8 0]}
-fn fourteen_items(alloc: Global) -> Result<Bytes, OutOfMemory> {
+/// {1: [`count` times i8 0]}
+fn zeros(alloc: Global, count: u32) -> Result<Bytes, OutOfMemory>
+    requires { count < 2147483648 }
+{
     let mut writer = Writer::new(alloc);
     writer.struct_begin()?;
-    writer.list_field(1, TKind::I8, 14)?;
-    writer.item_whole(0)?;
-    writer.item_whole(0)?;
-    writer.item_whole(0)?;
-    writer.item_whole(0)?;
-    writer.item_whole(0)?;
-    writer.item_whole(0)?;
-    writer.item_whole(0)?;
-    writer.item_whole(0)?;
-    writer.item_whole(0)?;
-    writer.item_whole(0)?;
-    writer.item_whole(0)?;
-    writer.item_whole(0)?;
-    writer.item_whole(0)?;
-    writer.item_whole(0)?;
-    writer.struct_end()?;
-    Ok(writer.finish())
-}
-
-/// {1: [15 times i8 0]}
-fn fifteen_items(alloc: Global) -> Result<Bytes, OutOfMemory> {
-    let mut writer = Writer::new(alloc);
-    writer.struct_begin()?;
-    writer.list_field(1, TKind::I8, 15)?;
-    writer.item_whole(0)?;
-    writer.item_whole(0)?;
-    writer.item_whole(0)?;
-    writer.item_whole(0)?;
-    writer.item_whole(0)?;
-    writer.item_whole(0)?;
-    writer.item_whole(0)?;
-    writer.item_whole(0)?;
-    writer.item_whole(0)?;
-    writer.item_whole(0)?;
-    writer.item_whole(0)?;
-    writer.item_whole(0)?;
-    writer.item_whole(0)?;
-    writer.item_whole(0)?;
-    writer.item_whole(0)?;
+    writer.list_field(1, TKind::I8, count)?;
+    for _item in 0..count {
+        writer.item_whole(0)?;
+    }
     writer.struct_end()?;
     Ok(writer.finish())
 }
@@ -171,10 +140,10 @@ fn writes_lists(rt: HostRuntime) -> Result<(), Fail> {
 
 #[test]
 fn writes_long_lists(rt: HostRuntime) -> Result<(), Fail> {
-    let written = fourteen_items(rt.alloc())?;
+    let written = zeros(rt.alloc(), 14)?;
     let spelling = b"\x19\xe3\0\0\0\0\0\0\0\0\0\0\0\0\0\0\0".as_slice();
     assert_eq!(rt; written.as_slice(), spelling);
-    let written = fifteen_items(rt.alloc())?;
+    let written = zeros(rt.alloc(), 15)?;
     let spelling = b"\x19\xf3\x0f\0\0\0\0\0\0\0\0\0\0\0\0\0\0\0\0".as_slice();
     assert_eq!(rt; written.as_slice(), spelling);
     Ok(())
