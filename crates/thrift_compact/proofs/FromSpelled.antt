@@ -4,7 +4,8 @@ use Rattle.std.proofs.lemmas.Bool.{cases_lt, lt-ltb, le-ltb}
 use Rattle.thrift_compact.specs.declared.kind.TKind.{TKind}
 use Rattle.thrift_compact.specs.declared.kind.TKind.TheVariants as kind
 use Rattle.thrift_compact.specs.Grammar.{IsListHead, IsFieldHead, Within, Spells, AllSpell, PairsSpell, SpellsFields}
-use Rattle.thrift_compact.specs.Proper.{AllOfKind, PairsOfKinds, ids_of, AreNew, IsSmall, IsProper, AllProper, PairsProper, FieldsProper, AreBytes, FitsTypes, AllFit, PairsFit, FieldsFit}
+use Rattle.thrift_compact.specs.Proper.{AllOfKind, PairsOfKinds, ids_of, AreNew, IsSmall, IsProper, AllProper, PairsProper, FieldsProper, FitsTypes, AllFit, PairsFit, FieldsFit}
+use Rattle.thrift_compact.specs.Spelled.{AreBytes}
 use Rattle.thrift_compact.specs.Reading.{zigzag, signed_byte, small_id}
 use Rattle.thrift_compact.specs.Spelling.{element_kind}
 use Rattle.thrift_compact.specs.Tree.{Tree, truth, int8, int16, int32, int64, double, binary, list, set, map, struct, Trees, no_trees, tree, Pairs, no_pairs, pair, Fields, no_fields, field, count, kind_of_tree}

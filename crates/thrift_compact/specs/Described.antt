@@ -5,7 +5,8 @@ use Rattle.thrift_compact.specs.declared.kind.TKind.{TKind}
 use Rattle.thrift_compact.specs.declared.kind.TKind.TheVariants as kind
 use Rattle.thrift_compact.specs.Calls as call
 use Rattle.thrift_compact.specs.Grammar.{Spells}
-use Rattle.thrift_compact.specs.Proper.{IsSmall, AreBytes}
+use Rattle.thrift_compact.specs.Proper.{IsSmall}
+use Rattle.thrift_compact.specs.Spelled.{AreBytes}
 use Rattle.thrift_compact.specs.Spelling.{canonical, element_kind, items_kind}
 use Rattle.thrift_compact.specs.Tree.{Tree, truth, int8, int16, int32, int64, double, binary, list, set, map, struct, Trees, no_trees, tree, Fields, no_fields, field, count}
 use Rattle.thrift_compact.specs.Writing.{Draft, new_draft, finished, after, May, IsWhole}

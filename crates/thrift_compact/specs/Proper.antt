@@ -1,9 +1,10 @@
 -- The trees that have a spelling: what the grammar asks of a tree's shape, and of its numbers and bytes.
-use Rattle.std.specs.Prelude.{◌≡◌, ℕ, suc, ◌<◌, ℤ, false, FitsSigned, List, [], ◌∷◌, ◌++◌, length, slice_index}
+use Rattle.std.specs.Prelude.{◌≡◌, ℕ, suc, ◌<◌, ℤ, false, FitsSigned, List, [], ◌∷◌, ◌++◌, length}
 use Rattle.std.specs.Int.{w8, w16, w32, w64}
 use Rattle.thrift_compact.specs.declared.kind.TKind.{TKind}
 use Rattle.thrift_compact.specs.Reading.{is_among}
 use Rattle.thrift_compact.specs.Spelling.{element_kind}
+use Rattle.thrift_compact.specs.Spelled.{AreBytes}
 use Rattle.thrift_compact.specs.Tree.{Tree, truth, int8, int16, int32, int64, double, binary, list, set, map, struct, Trees, no_trees, tree, Pairs, no_pairs, pair, Fields, no_fields, field, count, pair_count}
 
 -- all elements are of one kind; true and false count as one
@@ -67,10 +68,6 @@ abbrev mutual
   pub FieldsProper : ℕ → Fields → Type 0
   FieldsProper room no_fields = Unit {0}
   FieldsProper room (field id t fs) = IsProper room t × FieldsProper room fs
-
--- each item is a byte
-abbrev pub AreBytes : List ℕ → Type 0
-AreBytes bytes = (i : ℕ) → slice_index bytes i < 256
 
 -- numbers lie in the range of their type, ids have 16 bits, and a double has 8 bytes
 abbrev mutual
