@@ -19,7 +19,9 @@ pub enum Command {
         file: Text,
     },
     /// Print the struct at the front of `file` as text.
-    Thrift { file: Text },
+    Thrift {
+        file: Text,
+    },
 }
 
 /// The command that the words are, or None where they are no line of the table.
