@@ -1,11 +1,12 @@
 -- The levels and the bytes of some rows of a column.
-use Rattle.std.proofs.Common.{◌≡◌, ℕ, zero, suc, ◌+◌, ◌-◌, ◌<◌, ◌≤◌, List, [], ◌∷◌, ◌++◌, take, drop, length, get_or, sym, ap, ◌∙◌, arith, append_assoc, length-append, length-take}
+use Rattle.std.proofs.Common.{◌≡◌, ℕ, zero, suc, ◌+◌, ◌-◌, ◌<◌, ◌≤◌, List, [], ◌∷◌, ◌++◌, take, drop, length, get_or, Some, sym, ap, ◌∙◌, arith, append_assoc, length-append, length-take}
+use Rattle.std.specs.List.{slice_get}
 use Rattle.std.proofs.Math.Seq.{take-add}
 use Rattle.std.proofs.lemmas.List.{take_at, drop_at, take-append-drop, take_all, take-map, drop-map}
 use Rattle.parquet_meta.specs.declared.column.ColumnKind.{ColumnKind}
 use Rattle.parquet_meta.specs.declared.column.ColumnSpec.{ColumnSpec}
 use Rattle.plain_pages.specs.Cells.{Cell}
-use Rattle.plain_pages.specs.Columns.{text_of, values_text, starts_of, level_of, levels_of, rows_between, AreCellsOf, Keeps}
+use Rattle.plain_pages.specs.Columns.{text_of, values_text, starts_of, level_of, levels_of, rows_between, IsCellOf, AreCellsOf, Keeps}
 use Rattle.plain_pages.proofs.Kept.{values_text-append}
 
 take_between : (from to : ℕ) (cells : List Cell) → from ≤ to → take to cells ≡ take from cells ++ rows_between from to cells
@@ -85,3 +86,8 @@ all_rows spec from to cells h = all_take spec (to - from) (drop from cells) (all
 
 pub few_rows : (from to : ℕ) (cells : List Cell) → length (rows_between from to cells) ≤ to - from
 few_rows from to cells = omega (arith, length-take (to - from) (drop from cells))
+
+pub cell_of_spec : (spec : ColumnSpec) (cells : List Cell) (row : ℕ) (cell : Cell) → AreCellsOf spec cells → slice_get cells row ≡ Some cell → IsCellOf spec cell
+cell_of_spec spec [] row cell h e = absurd (cc)
+cell_of_spec spec (c ∷ cells) zero cell h e = let same : c ≡ cell = cc in rw (← same) h.0
+cell_of_spec spec (c ∷ cells) (suc row) cell h e = cell_of_spec spec cells row cell h.1 e

@@ -75,7 +75,8 @@ impl Table {
     pub fn cell(&self, column: usize, row: usize) -> CellRef<'_>
         requires column { column < length self.now }
         requires row { row < columns.rows_of self.now }
-        ensures { columns.cell_in self.now column row ≡ Some (cell_of result) }
+        ensures cell { columns.cell_in self.now column row ≡ Some (cell_of result) }
+        ensures of_spec { (c : columns.Column) → slice_get self.now column ≡ Some c → columns.IsCellOf c.spec (cell_of result) }
     {
         self.column(column).cell(row)
     }

@@ -80,7 +80,8 @@ impl TableColumn {
     /// The cell of a row.
     pub(crate) fn cell(&self, row: usize) -> CellRef<'_>
         requires { row < length self.now.cells }
-        ensures { slice_get self.now.cells row ≡ Some (cell_of result) }
+        ensures cell { slice_get self.now.cells row ≡ Some (cell_of result) }
+        ensures of_spec { columns.IsCellOf self.now.spec (cell_of result) }
     {
         if self.levels[row] == 0 {
             return CellRef::Null;
