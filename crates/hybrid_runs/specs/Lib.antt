@@ -1,0 +1,4 @@
+pub mod Hybrid
+pub mod BitsInside
+pub mod Written
+pub mod Seen

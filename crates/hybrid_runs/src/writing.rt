@@ -1,0 +1,91 @@
+ghost use Rattle.std.specs.Prelude.{◌≡◌, ◌+◌, ◌*◌, ◌^◌, ◌≤◌, ◌<◌, ◌++◌, length, take, OnOk, OnErr};
+ghost use Rattle.hybrid_runs.specs.Written as written;
+
+use pme_base::OutOfMemory;
+
+/// Adds one bit-packed run of width 1 to the end of `into`: the lowest bit of each item, in as many groups of eight
+/// as they take, with the bits that are left over 0. A refusal leaves what was there in front.
+#[tactic(auto, unfolding(crate::specs::Written::header_text))]
+pub fn write_run(bits: &[u8], into: &mut Vec<u8>) -> Result<(), OutOfMemory>
+    requires { length bits.now ≤ 16777216 }
+    ensures appended { OnOk result (into.new.items ≡ into.old.items ++ written.run_text bits.now) }
+    ensures kept { OnErr result (take (length into.old.items) into.new.items ≡ into.old.items) }
+{
+    let groups = groups_of(bits.len());
+    write_varint(5, 2 * groups as u32 + 1, into)?;
+    write_bits(bits, into)
+}
+
+/// How many bytes a run of so many bits has.
+#[tactic(auto, unfolding(crate::specs::Written::header_text))]
+pub fn run_length(count: usize) -> u32
+    requires { count ≤ 16777216 }
+    ensures size { result ≡ length (written.header_text count) + written.groups_of count }
+{
+    let groups = groups_of(count) as u32;
+    varint_length(5, 2 * groups + 1) + groups
+}
+
+/// Adds bits to the end of `into`, eight in a byte from the least on, and the bits that are left over 0. Of each
+/// item its lowest bit counts. A refusal leaves what was there in front.
+pub fn write_bits(bits: &[u8], into: &mut Vec<u8>) -> Result<(), OutOfMemory>
+    requires { length bits.now ≤ 16777216 }
+    ensures appended { OnOk result (into.new.items ≡ into.old.items ++ written.bits_text bits.now) }
+    ensures kept { OnErr result (take (length into.old.items) into.new.items ≡ into.old.items) }
+{
+    let groups = groups_of(bits.len());
+    let mut rest = bits;
+    for _ in 0..groups {
+        let (group, more) = rest.split_at(rest.len().min(8));
+        into.push(byte_of(group))?;
+        rest = more;
+    }
+    Ok(())
+}
+
+fn groups_of(count: usize) -> usize
+    requires { count ≤ 16777216 }
+    ensures { result ≡ written.groups_of count }
+{
+    count.div_ceil(8)
+}
+
+/// Up to eight bits in a byte, the first of them the least.
+fn byte_of(bits: &[u8]) -> u8
+    requires { length bits.now ≤ 8 }
+    ensures number { result ≡ written.bits_number bits.now }
+    ensures small { result < 2 ^ length bits.now }
+{
+    match bits {
+        [] => 0,
+        [bit, rest @ ..] => bit % 2 + 2 * byte_of(rest),
+    }
+}
+
+fn write_varint(turns: u32, number: u32, into: &mut Vec<u8>) -> Result<(), OutOfMemory>
+    ensures appended { OnOk result (into.new.items ≡ into.old.items ++ written.varint_text turns number) }
+    ensures kept { OnErr result (take (length into.old.items) into.new.items ≡ into.old.items) }
+{
+    if turns == 0 {
+        return Ok(());
+    }
+    if number < 128 {
+        into.push(number as u8)?;
+        return Ok(());
+    }
+    into.push((number % 128 + 128) as u8)?;
+    write_varint(turns - 1, number / 128, into)
+}
+
+fn varint_length(turns: u32, number: u32) -> u32
+    ensures length { result ≡ length (written.varint_text turns number) }
+    ensures most { result ≤ turns }
+{
+    if turns == 0 {
+        return 0;
+    }
+    if number < 128 {
+        return 1;
+    }
+    1 + varint_length(turns - 1, number / 128)
+}
