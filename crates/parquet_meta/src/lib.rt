@@ -1,8 +1,17 @@
-// What a Parquet file's metadata holds, as types: columns, and the headers of pages.
+// What a Parquet file's metadata holds: the structs of `parquet.thrift` that a reader of columns looks at, as types,
+// read from their bytes with the first refusal by a fixed order, and written in canonical spelling.
 #![tactic(auto)]
 
 mod column;
+mod file_meta;
+mod footer_parts;
+mod met;
 mod page_head;
+mod page_parts;
 
 pub use column::{ColumnKind, ColumnSpec, FlatSchema};
+pub use file_meta::{
+    AlgorithmMeta, ChunkCrypto, ChunkList, ChunkMeta, ColumnMeta, FileCrypto, FileMeta, GroupList,
+    PathList, RowGroupMeta,
+};
 pub use page_head::{DataHead, DictionaryHead, PageHead};
