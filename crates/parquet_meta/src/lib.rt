@@ -3,11 +3,17 @@
 #![tactic(auto)]
 
 mod column;
+mod column_rules;
 mod file_meta;
+mod file_rules;
 mod footer_parts;
+mod group_rules;
 mod met;
+mod names;
 mod page_head;
 mod page_parts;
+mod parts;
+mod value_rules;
 
 pub use column::{ColumnKind, ColumnSpec, FlatSchema};
 pub use file_meta::{
