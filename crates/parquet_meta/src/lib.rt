@@ -6,6 +6,8 @@ mod column;
 mod column_rules;
 mod file_meta;
 mod file_rules;
+#[cfg(test)]
+mod file_rules_tests;
 mod footer_parts;
 mod group_rules;
 mod met;
