@@ -1,0 +1,70 @@
+ghost use Rattle.std.specs.Prelude.{◌≡◌};
+ghost use Rattle.parquet_meta.specs.Fields as defined;
+
+use pme_base::{Cause, Detail, Place, Refusal, StructName, refusal_at};
+
+/// A field that is missing, bad or unsupported: the cause, the struct, and the field's number in it.
+#[derive(Clone, Copy, Debug, PartialEq, Eq, Drop)]
+pub struct FieldRefusal {
+    pub cause: Cause,
+    pub name: StructName,
+    pub field: i16,
+}
+
+/// What was met of a field of a struct.
+#[derive(Debug, Drop)]
+pub enum Met<T> {
+    /// The field isn't there.
+    Absent,
+    /// Its value has another type.
+    Wrong,
+    /// Its value is refused.
+    Refused(FieldRefusal),
+    Is(T),
+}
+
+/// The refusal of a field at a place.
+pub fn field_refusal(place: Place, refused: FieldRefusal) -> Refusal
+    ensures { result ≡ defined.field_refusal place refused }
+{
+    let detail = Detail::Field(refused.name, refused.field);
+    refusal_at(refused.cause, place, 0, detail)
+}
+
+impl<T: Drop> Met<T> {
+    /// The value of a field that may be absent.
+    pub fn optional(self, name: StructName, field: i16) -> Result<Option<T>, FieldRefusal>
+        ensures { result ≡ defined.optional name field self }
+    {
+        match self {
+            Met::Absent => Ok(None),
+            Met::Wrong => Err(FieldRefusal {
+                cause: Cause::BadField,
+                name,
+                field,
+            }),
+            Met::Refused(refused) => Err(refused),
+            Met::Is(value) => Ok(Some(value)),
+        }
+    }
+
+    /// The value of a field that must be there.
+    pub fn needed(self, name: StructName, field: i16) -> Result<T, FieldRefusal>
+        ensures { result ≡ defined.needed name field self }
+    {
+        match self {
+            Met::Absent => Err(FieldRefusal {
+                cause: Cause::MissingField,
+                name,
+                field,
+            }),
+            Met::Wrong => Err(FieldRefusal {
+                cause: Cause::BadField,
+                name,
+                field,
+            }),
+            Met::Refused(refused) => Err(refused),
+            Met::Is(value) => Ok(value),
+        }
+    }
+}
