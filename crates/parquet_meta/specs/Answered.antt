@@ -1,0 +1,8 @@
+-- What the answer of a call that reads a struct is: the defined one, unless memory is refused.
+use Rattle.std.specs.Prelude.{◌≡◌, true, Result, IfErr}
+use Rattle.pme_base.specs.declared.refusal.Refusal.{Refusal}
+use Rattle.parquet_meta.specs.Causes.{is_struct_cause}
+
+-- a refusal has one of the causes of a struct
+abbrev pub HasStructCause : {T : Type 0} → Result T Refusal → Type 0
+HasStructCause result = IfErr result (λ refusal. is_struct_cause refusal.cause ≡ true)
