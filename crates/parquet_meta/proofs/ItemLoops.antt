@@ -12,7 +12,7 @@ use Rattle.thrift_compact.specs.Tree.{Tree, Trees, no_trees, tree, list}
 use Rattle.parquet_meta.specs.declared.met.Met.{Met}
 use Rattle.parquet_meta.specs.declared.met.Met.TheVariants.{Absent, Wrong, Refused, Is}
 use Rattle.parquet_meta.specs.Fields.{onto_items, items_of, list_of}
-use Rattle.parquet_meta.specs.Parts.{Meets, MeetsItem, bad_items}
+use Rattle.parquet_meta.specs.Meets.{Meets, MeetsItem, bad_items}
 use Rattle.parquet_meta.proofs.Loops.{fails_with, mapped_ok, mapped_err}
 
 pub moves_then : (first now last : Standing) → Moves first now → Moves now last → Moves first last

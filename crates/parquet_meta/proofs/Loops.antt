@@ -10,7 +10,7 @@ use Rattle.thrift_compact.specs.Laws.{FieldsLeft, fields_begin, fields_no_head, 
 use Rattle.thrift_compact.specs.Reading.{Fault, nest, value, field_head}
 use Rattle.thrift_compact.specs.Standing.{Standing, room, IsStruct, ids_of, FailsAt, GivesAt, BeginsStruct, ReadsField}
 use Rattle.thrift_compact.specs.Tree.{Tree, Fields, no_fields, field}
-use Rattle.parquet_meta.specs.Parts.{Takes}
+use Rattle.parquet_meta.specs.Meets.{Takes}
 
 -- a refusal of a part is one of the whole
 pub fails_with : {X Y : Type 0} (size other : ℕ) (e : ThriftRefusal) (part : Result X Fault) (whole : Result Y Fault) → size ≡ other → ((f : Fault) → part ≡ Err f → whole ≡ Err f) → FailsAt size e part → FailsAt other e whole

@@ -7,7 +7,7 @@ ghost use Rattle.parquet_meta.specs.Structs.{aes_gcm_of, algorithm_of, algorithm
 use crate::file_meta::AlgorithmMeta;
 use crate::footer_parts::AesGcm;
 use crate::met::{FieldRefusal, Met};
-use crate::parts::{Parts, struct_field};
+use crate::met_fields::{MetFields, struct_field};
 use crate::values::{binary_field, truth_field};
 use pme_base::{Bytes, Cause, StructName};
 use std::alloc::Global;
@@ -15,13 +15,13 @@ use thrift_compact::{FieldHead, Reader, ThriftRefusal};
 
 /// The fields of AesGcmV1 and AesGcmCtrV1.
 #[derive(Drop)]
-pub(crate) struct AesGcmParts {
+pub(crate) struct AesGcmMet {
     prefix: Met<Bytes>,
     unique: Met<Bytes>,
     supply: Met<bool>,
 }
 
-impl Parts for AesGcmParts {
+impl MetFields for AesGcmMet {
     type Made = AesGcm;
 
     ghost none = { aes_gcm_none };
@@ -38,8 +38,8 @@ impl Parts for AesGcmParts {
 
     ghost causes = { aes_gcm_causes };
 
-    fn none() -> AesGcmParts {
-        AesGcmParts {
+    fn none() -> AesGcmMet {
+        AesGcmMet {
             prefix: Met::Absent,
             unique: Met::Absent,
             supply: Met::Absent,
@@ -75,12 +75,12 @@ impl Parts for AesGcmParts {
 
 /// The fields of EncryptionAlgorithm.
 #[derive(Drop)]
-pub(crate) struct AlgorithmParts {
+pub(crate) struct AlgorithmMet {
     gcm: Met<AesGcm>,
     ctr: Met<AesGcm>,
 }
 
-impl Parts for AlgorithmParts {
+impl MetFields for AlgorithmMet {
     type Made = AlgorithmMeta;
 
     ghost none = { algorithm_none };
@@ -97,8 +97,8 @@ impl Parts for AlgorithmParts {
 
     ghost causes = { algorithm_causes };
 
-    fn none() -> AlgorithmParts {
-        AlgorithmParts {
+    fn none() -> AlgorithmMet {
+        AlgorithmMet {
             gcm: Met::Absent,
             ctr: Met::Absent,
         }
@@ -111,8 +111,8 @@ impl Parts for AlgorithmParts {
         head: FieldHead,
     ) -> Result<(), ThriftRefusal> {
         match head.id {
-            1 => self.gcm = struct_field::<AesGcmParts>(alloc, reader, head.kind)?,
-            2 => self.ctr = struct_field::<AesGcmParts>(alloc, reader, head.kind)?,
+            1 => self.gcm = struct_field::<AesGcmMet>(alloc, reader, head.kind)?,
+            2 => self.ctr = struct_field::<AesGcmMet>(alloc, reader, head.kind)?,
             _ => reader.skip(head.kind)?,
         }
         Ok(())

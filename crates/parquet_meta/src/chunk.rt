@@ -12,7 +12,7 @@ use crate::file_meta::{ColumnMeta, PathList};
 use crate::footer_parts::{ColumnChunk, ColumnCrypto};
 use crate::items::{Item, list_field};
 use crate::met::{FieldRefusal, Met};
-use crate::parts::{Parts, read_front, struct_field, struct_item};
+use crate::met_fields::{MetFields, read_front, struct_field, struct_item};
 use crate::values::{binary_field, int32_field, int64_field};
 use pme_base::{Bytes, Cause, Place, Refusal, StructName};
 use std::alloc::Global;
@@ -20,7 +20,7 @@ use thrift_compact::{FieldHead, Reader, TKind, ThriftRefusal};
 
 /// The fields of ColumnMetaData.
 #[derive(Drop)]
-pub(crate) struct ColumnMetaParts {
+pub(crate) struct ColumnMetaMet {
     kind: Met<i32>,
     path: Met<PathList>,
     codec: Met<i32>,
@@ -29,7 +29,7 @@ pub(crate) struct ColumnMetaParts {
     dictionary_page_offset: Met<i64>,
 }
 
-impl Parts for ColumnMetaParts {
+impl MetFields for ColumnMetaMet {
     type Made = ColumnMeta;
 
     ghost none = { column_meta_none };
@@ -46,8 +46,8 @@ impl Parts for ColumnMetaParts {
 
     ghost causes = { column_meta_causes };
 
-    fn none() -> ColumnMetaParts {
-        ColumnMetaParts {
+    fn none() -> ColumnMetaMet {
+        ColumnMetaMet {
             kind: Met::Absent,
             path: Met::Absent,
             codec: Met::Absent,
@@ -97,12 +97,12 @@ impl Parts for ColumnMetaParts {
 
 /// The fields of EncryptionWithColumnKey.
 #[derive(Drop)]
-pub(crate) struct ColumnKeyParts {
+pub(crate) struct ColumnKeyMet {
     path: Met<PathList>,
     key_metadata: Met<Bytes>,
 }
 
-impl Parts for ColumnKeyParts {
+impl MetFields for ColumnKeyMet {
     type Made = ColumnCrypto;
 
     ghost none = { column_key_none };
@@ -119,8 +119,8 @@ impl Parts for ColumnKeyParts {
 
     ghost causes = { column_key_causes };
 
-    fn none() -> ColumnKeyParts {
-        ColumnKeyParts {
+    fn none() -> ColumnKeyMet {
+        ColumnKeyMet {
             path: Met::Absent,
             key_metadata: Met::Absent,
         }
@@ -151,9 +151,9 @@ impl Parts for ColumnKeyParts {
 
 /// The fields of EncryptionWithFooterKey.
 #[derive(Drop)]
-pub(crate) struct FooterKeyParts {}
+pub(crate) struct FooterKeyMet {}
 
-impl Parts for FooterKeyParts {
+impl MetFields for FooterKeyMet {
     type Made = ColumnCrypto;
 
     ghost none = { footer_key_none };
@@ -170,8 +170,8 @@ impl Parts for FooterKeyParts {
 
     ghost causes = { footer_key_causes };
 
-    fn none() -> FooterKeyParts {
-        FooterKeyParts {}
+    fn none() -> FooterKeyMet {
+        FooterKeyMet {}
     }
 
     fn take(
@@ -193,12 +193,12 @@ impl Parts for FooterKeyParts {
 
 /// The fields of ColumnCryptoMetaData.
 #[derive(Drop)]
-pub(crate) struct ColumnCryptoParts {
+pub(crate) struct ColumnCryptoMet {
     footer: Met<ColumnCrypto>,
     column: Met<ColumnCrypto>,
 }
 
-impl Parts for ColumnCryptoParts {
+impl MetFields for ColumnCryptoMet {
     type Made = ColumnCrypto;
 
     ghost none = { column_crypto_none };
@@ -215,8 +215,8 @@ impl Parts for ColumnCryptoParts {
 
     ghost causes = { column_crypto_causes };
 
-    fn none() -> ColumnCryptoParts {
-        ColumnCryptoParts {
+    fn none() -> ColumnCryptoMet {
+        ColumnCryptoMet {
             footer: Met::Absent,
             column: Met::Absent,
         }
@@ -229,8 +229,8 @@ impl Parts for ColumnCryptoParts {
         head: FieldHead,
     ) -> Result<(), ThriftRefusal> {
         match head.id {
-            1 => self.footer = struct_field::<FooterKeyParts>(alloc, reader, head.kind)?,
-            2 => self.column = struct_field::<ColumnKeyParts>(alloc, reader, head.kind)?,
+            1 => self.footer = struct_field::<FooterKeyMet>(alloc, reader, head.kind)?,
+            2 => self.column = struct_field::<ColumnKeyMet>(alloc, reader, head.kind)?,
             _ => reader.skip(head.kind)?,
         }
         Ok(())
@@ -267,14 +267,14 @@ fn one_of_both(
 
 /// The fields of ColumnChunk.
 #[derive(Drop)]
-pub(crate) struct ColumnChunkParts {
+pub(crate) struct ColumnChunkMet {
     file_path: Met<Bytes>,
     plain_meta: Met<ColumnMeta>,
     crypto: Met<ColumnCrypto>,
     sealed_meta: Met<Bytes>,
 }
 
-impl Parts for ColumnChunkParts {
+impl MetFields for ColumnChunkMet {
     type Made = ColumnChunk;
 
     ghost none = { column_chunk_none };
@@ -291,8 +291,8 @@ impl Parts for ColumnChunkParts {
 
     ghost causes = { column_chunk_causes };
 
-    fn none() -> ColumnChunkParts {
-        ColumnChunkParts {
+    fn none() -> ColumnChunkMet {
+        ColumnChunkMet {
             file_path: Met::Absent,
             plain_meta: Met::Absent,
             crypto: Met::Absent,
@@ -308,8 +308,8 @@ impl Parts for ColumnChunkParts {
     ) -> Result<(), ThriftRefusal> {
         match head.id {
             1 => self.file_path = binary_field(alloc, reader, head.kind)?,
-            3 => self.plain_meta = struct_field::<ColumnMetaParts>(alloc, reader, head.kind)?,
-            8 => self.crypto = struct_field::<ColumnCryptoParts>(alloc, reader, head.kind)?,
+            3 => self.plain_meta = struct_field::<ColumnMetaMet>(alloc, reader, head.kind)?,
+            8 => self.crypto = struct_field::<ColumnCryptoMet>(alloc, reader, head.kind)?,
             9 => self.sealed_meta = binary_field(alloc, reader, head.kind)?,
             _ => reader.skip(head.kind)?,
         }
@@ -341,7 +341,7 @@ impl Item for ColumnChunk {
         reader: &mut Reader<'_>,
         kind: TKind,
     ) -> Result<Met<ColumnChunk>, ThriftRefusal> {
-        struct_item::<ColumnChunkParts>(alloc, reader, kind)
+        struct_item::<ColumnChunkMet>(alloc, reader, kind)
     }
 }
 
@@ -351,6 +351,6 @@ pub fn read_column_meta(alloc: Global, place: &Place, bytes: &[u8]) -> Result<Co
     ensures quiet { Quiet result }
     ensures causes { HasStructCause result }
 {
-    let (meta, _) = read_front::<ColumnMetaParts>(alloc, *place, bytes)?;
+    let (meta, _) = read_front::<ColumnMetaMet>(alloc, *place, bytes)?;
     Ok(meta)
 }

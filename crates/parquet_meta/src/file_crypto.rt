@@ -9,10 +9,10 @@ ghost use Rattle.parquet_meta.specs.Causes.{file_crypto_causes};
 ghost use Rattle.parquet_meta.specs.Met.{file_crypto_none, file_crypto_step, file_crypto_after};
 ghost use Rattle.parquet_meta.specs.Structs.{file_crypto_of};
 
-use crate::algorithm::AlgorithmParts;
+use crate::algorithm::AlgorithmMet;
 use crate::file_meta::{AlgorithmMeta, FileCrypto};
 use crate::met::{FieldRefusal, Met};
-use crate::parts::{Parts, read_front, struct_field};
+use crate::met_fields::{MetFields, read_front, struct_field};
 use crate::values::binary_field;
 use pme_base::{Bytes, Place, Refusal, StructName};
 use std::alloc::Global;
@@ -20,12 +20,12 @@ use thrift_compact::{FieldHead, Reader, ThriftRefusal};
 
 /// The fields of FileCryptoMetaData.
 #[derive(Drop)]
-pub(crate) struct FileCryptoParts {
+pub(crate) struct FileCryptoMet {
     algorithm: Met<AlgorithmMeta>,
     key_metadata: Met<Bytes>,
 }
 
-impl Parts for FileCryptoParts {
+impl MetFields for FileCryptoMet {
     type Made = FileCrypto;
 
     ghost none = { file_crypto_none };
@@ -42,8 +42,8 @@ impl Parts for FileCryptoParts {
 
     ghost causes = { file_crypto_causes };
 
-    fn none() -> FileCryptoParts {
-        FileCryptoParts {
+    fn none() -> FileCryptoMet {
+        FileCryptoMet {
             algorithm: Met::Absent,
             key_metadata: Met::Absent,
         }
@@ -56,7 +56,7 @@ impl Parts for FileCryptoParts {
         head: FieldHead,
     ) -> Result<(), ThriftRefusal> {
         match head.id {
-            1 => self.algorithm = struct_field::<AlgorithmParts>(alloc, reader, head.kind)?,
+            1 => self.algorithm = struct_field::<AlgorithmMet>(alloc, reader, head.kind)?,
             2 => self.key_metadata = binary_field(alloc, reader, head.kind)?,
             _ => reader.skip(head.kind)?,
         }
@@ -81,5 +81,5 @@ pub fn read_file_crypto(alloc: Global, bytes: &[u8]) -> Result<(FileCrypto, usiz
     ensures quiet { Quiet result }
     ensures causes { HasStructCause result }
 {
-    read_front::<FileCryptoParts>(alloc, Place::footer(), bytes)
+    read_front::<FileCryptoMet>(alloc, Place::footer(), bytes)
 }

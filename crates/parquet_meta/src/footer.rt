@@ -8,12 +8,12 @@ ghost use Rattle.parquet_meta.specs.Fields.{struct_of};
 ghost use Rattle.parquet_meta.specs.Met.{schema_element_none, schema_element_step, schema_element_after, row_group_none, row_group_step, row_group_after, file_fields_none, file_fields_step, file_fields_after};
 ghost use Rattle.parquet_meta.specs.Structs.{file_fields, schema_element, schema_element_of, row_group, row_group_of, file_fields_of};
 
-use crate::algorithm::AlgorithmParts;
+use crate::algorithm::AlgorithmMet;
 use crate::file_meta::AlgorithmMeta;
 use crate::footer_parts::{ColumnChunk, FileFields, RowGroup, SchemaElement};
 use crate::items::{Item, list_field};
 use crate::met::{FieldRefusal, Met};
-use crate::parts::{Parts, read_front, struct_field, struct_item};
+use crate::met_fields::{MetFields, read_front, struct_field, struct_item};
 use crate::values::{binary_field, int16_field, int32_field, int64_field};
 use pme_base::{Bytes, Place, Refusal, Rows, StructName};
 use std::alloc::Global;
@@ -21,7 +21,7 @@ use thrift_compact::{FieldHead, Reader, TKind, ThriftRefusal};
 
 /// The fields of SchemaElement.
 #[derive(Drop)]
-pub(crate) struct SchemaElementParts {
+pub(crate) struct SchemaElementMet {
     kind: Met<i32>,
     type_length: Met<i32>,
     repetition: Met<i32>,
@@ -30,7 +30,7 @@ pub(crate) struct SchemaElementParts {
     converted: Met<i32>,
 }
 
-impl Parts for SchemaElementParts {
+impl MetFields for SchemaElementMet {
     type Made = SchemaElement;
 
     ghost none = { schema_element_none };
@@ -47,8 +47,8 @@ impl Parts for SchemaElementParts {
 
     ghost causes = { schema_element_causes };
 
-    fn none() -> SchemaElementParts {
-        SchemaElementParts {
+    fn none() -> SchemaElementMet {
+        SchemaElementMet {
             kind: Met::Absent,
             type_length: Met::Absent,
             repetition: Met::Absent,
@@ -102,19 +102,19 @@ impl Item for SchemaElement {
         reader: &mut Reader<'_>,
         kind: TKind,
     ) -> Result<Met<SchemaElement>, ThriftRefusal> {
-        struct_item::<SchemaElementParts>(alloc, reader, kind)
+        struct_item::<SchemaElementMet>(alloc, reader, kind)
     }
 }
 
 /// The fields of RowGroup.
 #[derive(Drop)]
-pub(crate) struct RowGroupParts {
+pub(crate) struct RowGroupMet {
     chunks: Met<Rows<ColumnChunk>>,
     num_rows: Met<i64>,
     ordinal: Met<i16>,
 }
 
-impl Parts for RowGroupParts {
+impl MetFields for RowGroupMet {
     type Made = RowGroup;
 
     ghost none = { row_group_none };
@@ -131,8 +131,8 @@ impl Parts for RowGroupParts {
 
     ghost causes = { row_group_causes };
 
-    fn none() -> RowGroupParts {
-        RowGroupParts {
+    fn none() -> RowGroupMet {
+        RowGroupMet {
             chunks: Met::Absent,
             num_rows: Met::Absent,
             ordinal: Met::Absent,
@@ -174,13 +174,13 @@ impl Item for RowGroup {
         reader: &mut Reader<'_>,
         kind: TKind,
     ) -> Result<Met<RowGroup>, ThriftRefusal> {
-        struct_item::<RowGroupParts>(alloc, reader, kind)
+        struct_item::<RowGroupMet>(alloc, reader, kind)
     }
 }
 
 /// The fields of FileMetaData.
 #[derive(Drop)]
-pub(crate) struct FileParts {
+pub(crate) struct FileMet {
     schema: Met<Rows<SchemaElement>>,
     num_rows: Met<i64>,
     groups: Met<Rows<RowGroup>>,
@@ -188,7 +188,7 @@ pub(crate) struct FileParts {
     signing_key_metadata: Met<Bytes>,
 }
 
-impl Parts for FileParts {
+impl MetFields for FileMet {
     type Made = FileFields;
 
     ghost none = { file_fields_none };
@@ -205,8 +205,8 @@ impl Parts for FileParts {
 
     ghost causes = { file_fields_causes };
 
-    fn none() -> FileParts {
-        FileParts {
+    fn none() -> FileMet {
+        FileMet {
             schema: Met::Absent,
             num_rows: Met::Absent,
             groups: Met::Absent,
@@ -225,7 +225,7 @@ impl Parts for FileParts {
             2 => self.schema = list_field(alloc, reader, head.kind)?,
             3 => self.num_rows = int64_field(reader, head.kind)?,
             4 => self.groups = list_field(alloc, reader, head.kind)?,
-            8 => self.algorithm = struct_field::<AlgorithmParts>(alloc, reader, head.kind)?,
+            8 => self.algorithm = struct_field::<AlgorithmMet>(alloc, reader, head.kind)?,
             9 => self.signing_key_metadata = binary_field(alloc, reader, head.kind)?,
             _ => reader.skip(head.kind)?,
         }
@@ -260,5 +260,5 @@ pub(crate) fn read_file_fields(
     ensures quiet { Quiet result }
     ensures causes { HasStructCause result }
 {
-    read_front::<FileParts>(alloc, *place, bytes)
+    read_front::<FileMet>(alloc, *place, bytes)
 }

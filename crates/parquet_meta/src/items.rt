@@ -1,7 +1,7 @@
 // A list by its items, of which the first bad one decides.
 ghost use Rattle.std.specs.Prelude.{◌≡◌, ◌≤◌, length, OnOk};
 ghost use Rattle.parquet_meta.specs.Fields.{binary_of, list_of, items_of};
-ghost use Rattle.parquet_meta.specs.Parts.{MeetsField, MeetsItem, Adds, bad_items};
+ghost use Rattle.parquet_meta.specs.Meets.{MeetsField, MeetsItem, Adds, bad_items};
 ghost use Rattle.parquet_meta.specs.declared.met.Met.{Met};
 ghost use Rattle.thrift_compact.specs.Answers.{mapped, passed};
 ghost use Rattle.thrift_compact.specs.Reading.{value as value_at, element, elements};

@@ -14,7 +14,7 @@ mod met;
 mod page;
 mod page_head;
 mod page_parts;
-mod parts;
+mod met_fields;
 mod signing;
 mod values;
 

@@ -1,6 +1,6 @@
 ghost use Rattle.std.specs.Prelude.{◌≡◌};
 ghost use Rattle.parquet_meta.specs.Fields as defined;
-ghost use Rattle.parquet_meta.specs.Parts.{bad_items};
+ghost use Rattle.parquet_meta.specs.Meets.{bad_items};
 
 use pme_base::{Cause, Detail, Place, Refusal, Rows, StructName, refusal_at};
 

@@ -10,7 +10,7 @@ ghost use Rattle.parquet_meta.specs.Structs.{data_counts_of, dictionary_counts_o
 use crate::met::{FieldRefusal, Met};
 use crate::page_head::{DataHead, DictionaryHead, PageHead};
 use crate::page_parts::{DataCounts, DictionaryCounts};
-use crate::parts::{Parts, read_front, struct_field};
+use crate::met_fields::{MetFields, read_front, struct_field};
 use crate::values::int32_field;
 use pme_base::{Cause, Place, Refusal, StructName};
 use std::alloc::Global;
@@ -18,13 +18,13 @@ use thrift_compact::{FieldHead, Reader, ThriftRefusal};
 
 /// The fields of DataPageHeader.
 #[derive(Drop)]
-pub(crate) struct DataCountsParts {
+pub(crate) struct DataCountsMet {
     num_values: Met<i32>,
     encoding: Met<i32>,
     level_encoding: Met<i32>,
 }
 
-impl Parts for DataCountsParts {
+impl MetFields for DataCountsMet {
     type Made = DataCounts;
 
     ghost none = { data_counts_none };
@@ -41,8 +41,8 @@ impl Parts for DataCountsParts {
 
     ghost causes = { data_counts_causes };
 
-    fn none() -> DataCountsParts {
-        DataCountsParts {
+    fn none() -> DataCountsMet {
+        DataCountsMet {
             num_values: Met::Absent,
             encoding: Met::Absent,
             level_encoding: Met::Absent,
@@ -78,12 +78,12 @@ impl Parts for DataCountsParts {
 
 /// The fields of DictionaryPageHeader.
 #[derive(Drop)]
-pub(crate) struct DictionaryCountsParts {
+pub(crate) struct DictionaryCountsMet {
     num_values: Met<i32>,
     encoding: Met<i32>,
 }
 
-impl Parts for DictionaryCountsParts {
+impl MetFields for DictionaryCountsMet {
     type Made = DictionaryCounts;
 
     ghost none = { dictionary_counts_none };
@@ -100,8 +100,8 @@ impl Parts for DictionaryCountsParts {
 
     ghost causes = { dictionary_counts_causes };
 
-    fn none() -> DictionaryCountsParts {
-        DictionaryCountsParts {
+    fn none() -> DictionaryCountsMet {
+        DictionaryCountsMet {
             num_values: Met::Absent,
             encoding: Met::Absent,
         }
@@ -133,7 +133,7 @@ impl Parts for DictionaryCountsParts {
 
 /// The fields of PageHeader.
 #[derive(Drop)]
-pub(crate) struct PageHeadParts {
+pub(crate) struct PageHeadMet {
     page_type: Met<i32>,
     uncompressed: Met<i32>,
     compressed: Met<i32>,
@@ -141,7 +141,7 @@ pub(crate) struct PageHeadParts {
     dictionary: Met<DictionaryCounts>,
 }
 
-impl Parts for PageHeadParts {
+impl MetFields for PageHeadMet {
     type Made = PageHead;
 
     ghost none = { page_head_none };
@@ -158,8 +158,8 @@ impl Parts for PageHeadParts {
 
     ghost causes = { page_head_causes };
 
-    fn none() -> PageHeadParts {
-        PageHeadParts {
+    fn none() -> PageHeadMet {
+        PageHeadMet {
             page_type: Met::Absent,
             uncompressed: Met::Absent,
             compressed: Met::Absent,
@@ -178,8 +178,8 @@ impl Parts for PageHeadParts {
             1 => self.page_type = int32_field(reader, head.kind)?,
             2 => self.uncompressed = int32_field(reader, head.kind)?,
             3 => self.compressed = int32_field(reader, head.kind)?,
-            5 => self.counts = struct_field::<DataCountsParts>(alloc, reader, head.kind)?,
-            7 => self.dictionary = struct_field::<DictionaryCountsParts>(alloc, reader, head.kind)?,
+            5 => self.counts = struct_field::<DataCountsMet>(alloc, reader, head.kind)?,
+            7 => self.dictionary = struct_field::<DictionaryCountsMet>(alloc, reader, head.kind)?,
             _ => reader.skip(head.kind)?,
         }
         Ok(())
@@ -272,5 +272,5 @@ pub fn read_page_head(
     ensures quiet { Quiet result }
     ensures causes { HasStructCause result }
 {
-    read_front::<PageHeadParts>(alloc, *place, bytes)
+    read_front::<PageHeadMet>(alloc, *place, bytes)
 }

@@ -9,10 +9,10 @@ ghost use Rattle.parquet_meta.specs.Causes.{signing_causes};
 ghost use Rattle.parquet_meta.specs.Met.{signing_none, signing_step, signing_after};
 ghost use Rattle.parquet_meta.specs.Structs.{signing_of};
 
-use crate::algorithm::AlgorithmParts;
+use crate::algorithm::AlgorithmMet;
 use crate::file_meta::AlgorithmMeta;
 use crate::met::{FieldRefusal, Met};
-use crate::parts::{Parts, read_front, struct_field};
+use crate::met_fields::{MetFields, read_front, struct_field};
 use crate::values::binary_field;
 use pme_base::{Bytes, Place, Refusal, StructName};
 use std::alloc::Global;
@@ -20,12 +20,12 @@ use thrift_compact::{FieldHead, Reader, ThriftRefusal};
 
 /// The fields of how a signed footer is signed.
 #[derive(Drop)]
-pub(crate) struct SigningParts {
+pub(crate) struct SigningMet {
     algorithm: Met<AlgorithmMeta>,
     key_metadata: Met<Bytes>,
 }
 
-impl Parts for SigningParts {
+impl MetFields for SigningMet {
     type Made = (Option<AlgorithmMeta>, Option<Bytes>);
 
     ghost none = { signing_none };
@@ -42,8 +42,8 @@ impl Parts for SigningParts {
 
     ghost causes = { signing_causes };
 
-    fn none() -> SigningParts {
-        SigningParts {
+    fn none() -> SigningMet {
+        SigningMet {
             algorithm: Met::Absent,
             key_metadata: Met::Absent,
         }
@@ -56,7 +56,7 @@ impl Parts for SigningParts {
         head: FieldHead,
     ) -> Result<(), ThriftRefusal> {
         match head.id {
-            8 => self.algorithm = struct_field::<AlgorithmParts>(alloc, reader, head.kind)?,
+            8 => self.algorithm = struct_field::<AlgorithmMet>(alloc, reader, head.kind)?,
             9 => self.key_metadata = binary_field(alloc, reader, head.kind)?,
             _ => reader.skip(head.kind)?,
         }
@@ -84,7 +84,7 @@ pub fn read_signing(
     ensures quiet { Quiet result }
     ensures causes { HasStructCause result }
 {
-    let ((algorithm, key_metadata), size) = read_front::<SigningParts>(
+    let ((algorithm, key_metadata), size) = read_front::<SigningMet>(
         alloc,
         Place::footer(),
         bytes,

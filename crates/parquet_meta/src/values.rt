@@ -1,7 +1,7 @@
 // The value of a field, as it is met: a value of another kind is passed.
 ghost use Rattle.std.specs.Prelude.{◌≡◌, ◌≤◌, length, OnOk};
 ghost use Rattle.parquet_meta.specs.Fields.{binary_of, truth_of, int16_of, int32_of, int64_of};
-ghost use Rattle.parquet_meta.specs.Parts.{MeetsField, Copies};
+ghost use Rattle.parquet_meta.specs.Meets.{MeetsField, Copies};
 
 use crate::met::Met;
 use pme_base::Bytes;

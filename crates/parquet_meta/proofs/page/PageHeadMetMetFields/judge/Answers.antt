@@ -1,7 +1,7 @@
 use Rattle.std.proofs.Common.{SFits, w32, rules}
 use Rattle.std.proofs.lemmas.Int.{to_z-of_z}
 use Rattle.parquet_meta.proofs.Pages.{page_judged}
-use Rattle.parquet_meta.proofs.page.PageHeadPartsParts.judge.Goals as goal
+use Rattle.parquet_meta.proofs.page.PageHeadMetMetFields.judge.Goals as goal
 
 pub returns : goal.returns
 returns c =

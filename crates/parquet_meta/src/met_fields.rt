@@ -4,7 +4,7 @@ ghost use Rattle.parquet_meta.specs.Answered.{HasStructCause};
 ghost use Rattle.parquet_meta.specs.Calls.{struct_at};
 ghost use Rattle.parquet_meta.specs.Causes.{CheckedCause};
 ghost use Rattle.parquet_meta.specs.Fields.{Checked, struct_of};
-ghost use Rattle.parquet_meta.specs.Parts.{Takes, MeetsField, MeetsItem, told_at};
+ghost use Rattle.parquet_meta.specs.Meets.{Takes, MeetsField, MeetsItem, told_at};
 ghost use Rattle.pme_base.specs.Steps.{Answers, Quiet};
 ghost use Rattle.thrift_compact.specs.Answers.{mapped};
 ghost use Rattle.thrift_compact.specs.Reading.{nest};
@@ -17,7 +17,7 @@ use std::alloc::Global;
 use thrift_compact::{FieldHead, Reader, TKind, ThriftRefusal};
 
 /// What was met of a struct's fields: each is one of the fields that are looked at.
-pub(crate) trait Parts: Drop {
+pub(crate) trait MetFields: Drop {
     /// What the fields make.
     type Made: Drop;
 
@@ -55,7 +55,7 @@ pub(crate) trait Parts: Drop {
 }
 
 /// Reads a struct up to its stop byte.
-pub(crate) fn read_parts<M: Parts>(
+pub(crate) fn read_fields<M: MetFields>(
     alloc: Global,
     reader: &mut Reader<'_>,
 ) -> Result<M, ThriftRefusal>
@@ -71,7 +71,7 @@ pub(crate) fn read_parts<M: Parts>(
 }
 
 /// The struct in a field.
-pub(crate) fn struct_field<M: Parts>(
+pub(crate) fn struct_field<M: MetFields>(
     alloc: Global,
     reader: &mut Reader<'_>,
     kind: TKind,
@@ -81,7 +81,7 @@ pub(crate) fn struct_field<M: Parts>(
 {
     match kind {
         TKind::Struct => {
-            let met = read_parts::<M>(alloc, reader)?;
+            let met = read_fields::<M>(alloc, reader)?;
             Ok(Met::of(met.judge()))
         }
         _ => {
@@ -92,7 +92,7 @@ pub(crate) fn struct_field<M: Parts>(
 }
 
 /// The struct in an item of a list.
-pub(crate) fn struct_item<M: Parts>(
+pub(crate) fn struct_item<M: MetFields>(
     alloc: Global,
     reader: &mut Reader<'_>,
     kind: TKind,
@@ -110,7 +110,7 @@ pub(crate) fn struct_item<M: Parts>(
 }
 
 /// The struct at the front of `bytes`, and how many bytes it takes.
-pub(crate) fn read_front<M: Parts>(
+pub(crate) fn read_front<M: MetFields>(
     alloc: Global,
     place: Place,
     bytes: &[u8],
@@ -120,7 +120,7 @@ pub(crate) fn read_front<M: Parts>(
     ensures causes { HasStructCause result }
 {
     let mut reader = Reader::new(alloc, bytes);
-    let met = match read_parts::<M>(alloc, &mut reader) {
+    let met = match read_fields::<M>(alloc, &mut reader) {
         Ok(met) => met,
         Err(refusal) => return Err(told(place, refusal)),
     };
