@@ -54,3 +54,8 @@ Adds before x after (Err refusal) = refusal ≡ OutOfMemory
 abbrev pub bad_items : {X : Type 0} → Met X → Met (List X)
 bad_items (Refused r) = Refused r
 bad_items _ = Wrong
+
+-- what was met is answered, unless memory is refused
+abbrev pub IsSame : {X : Type 0} → X → Result X ThriftRefusal → Type 0
+IsSame met (Ok other) = other ≡ met
+IsSame met (Err refusal) = refusal ≡ OutOfMemory

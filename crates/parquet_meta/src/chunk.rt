@@ -10,7 +10,7 @@ ghost use Rattle.parquet_meta.specs.Structs.{column_meta_of, column_key_of, colu
 
 use crate::file_meta::{ColumnMeta, PathList};
 use crate::footer_parts::{ColumnChunk, ColumnCrypto};
-use crate::items::{Item, list_field};
+use crate::items::{Item, names_field};
 use crate::met::{FieldRefusal, Met};
 use crate::met_fields::{MetFields, read_front, struct_field, struct_item};
 use crate::values::{binary_field, int32_field, int64_field};
@@ -65,7 +65,7 @@ impl MetFields for ColumnMetaMet {
     ) -> Result<(), ThriftRefusal> {
         match head.id {
             1 => self.kind = int32_field(reader, head.kind)?,
-            3 => self.path = list_field(alloc, reader, head.kind)?,
+            3 => self.path = names_field(alloc, reader, head.kind)?,
             4 => self.codec = int32_field(reader, head.kind)?,
             5 => self.num_values = int64_field(reader, head.kind)?,
             9 => self.data_page_offset = int64_field(reader, head.kind)?,
@@ -133,7 +133,7 @@ impl MetFields for ColumnKeyMet {
         head: FieldHead,
     ) -> Result<(), ThriftRefusal> {
         match head.id {
-            1 => self.path = list_field(alloc, reader, head.kind)?,
+            1 => self.path = names_field(alloc, reader, head.kind)?,
             2 => self.key_metadata = binary_field(alloc, reader, head.kind)?,
             _ => reader.skip(head.kind)?,
         }

@@ -1,7 +1,7 @@
 // A footer's schema, row groups and file metadata.
 ghost use Rattle.std.specs.Prelude.{◌≡◌, refl};
-ghost use Rattle.parquet_meta.specs.Answered.{HasStructCause};
-ghost use Rattle.parquet_meta.specs.Calls.{struct_at};
+ghost use Rattle.parquet_meta.specs.Answered.{HasStructCause, HasFileCause};
+ghost use Rattle.parquet_meta.specs.Calls.{struct_at, file_meta_at};
 ghost use Rattle.pme_base.specs.Steps.{Answers, Quiet};
 ghost use Rattle.parquet_meta.specs.Causes.{schema_element_causes, row_group_causes, file_fields_causes};
 ghost use Rattle.parquet_meta.specs.Fields.{struct_of};
@@ -9,13 +9,15 @@ ghost use Rattle.parquet_meta.specs.Met.{schema_element_none, schema_element_ste
 ghost use Rattle.parquet_meta.specs.Structs.{file_fields, schema_element, schema_element_of, row_group, row_group_of, file_fields_of};
 
 use crate::algorithm::AlgorithmMet;
-use crate::file_meta::AlgorithmMeta;
+use crate::file_meta::{AlgorithmMeta, FileMeta};
+use crate::file_rules::file_of;
 use crate::footer_parts::{ColumnChunk, FileFields, RowGroup, SchemaElement};
 use crate::items::{Item, list_field};
 use crate::met::{FieldRefusal, Met};
 use crate::met_fields::{MetFields, read_front, struct_field, struct_item};
+use crate::parts::Parts;
 use crate::values::{binary_field, int16_field, int32_field, int64_field};
-use pme_base::{Bytes, Place, Refusal, Rows, StructName};
+use pme_base::{Bytes, Place, Refusal, StructName};
 use std::alloc::Global;
 use thrift_compact::{FieldHead, Reader, TKind, ThriftRefusal};
 
@@ -109,7 +111,7 @@ impl Item for SchemaElement {
 /// The fields of RowGroup.
 #[derive(Drop)]
 pub(crate) struct RowGroupMet {
-    chunks: Met<Rows<ColumnChunk>>,
+    chunks: Met<Parts<ColumnChunk>>,
     num_rows: Met<i64>,
     ordinal: Met<i16>,
 }
@@ -181,9 +183,9 @@ impl Item for RowGroup {
 /// The fields of FileMetaData.
 #[derive(Drop)]
 pub(crate) struct FileMet {
-    schema: Met<Rows<SchemaElement>>,
+    schema: Met<Parts<SchemaElement>>,
     num_rows: Met<i64>,
-    groups: Met<Rows<RowGroup>>,
+    groups: Met<Parts<RowGroup>>,
     algorithm: Met<AlgorithmMeta>,
     signing_key_metadata: Met<Bytes>,
 }
@@ -261,4 +263,20 @@ pub(crate) fn read_file_fields(
     ensures causes { HasStructCause result }
 {
     read_front::<FileMet>(alloc, *place, bytes)
+}
+
+/// Reads a footer, and how many bytes it takes: its fields, and then the rules on their values. Refusals are at
+/// `place`.
+pub fn read_file_meta(
+    alloc: Global,
+    place: &Place,
+    bytes: &[u8],
+) -> Result<(FileMeta, usize), Refusal>
+    ensures answer { Answers result (file_meta_at place.now bytes.now) }
+    ensures quiet { Quiet result }
+    ensures causes { HasFileCause result }
+{
+    let (fields, size) = read_file_fields(alloc, place, bytes)?;
+    let file = file_of(alloc, *place, fields)?;
+    Ok((file, size))
 }

@@ -1,6 +1,7 @@
 // A footer as its fields are read, before the rules on their values.
 use crate::file_meta::{AlgorithmMeta, ColumnMeta, PathList};
-use pme_base::{Bytes, Rows};
+use crate::parts::Parts;
+use pme_base::Bytes;
 
 /// The fields 1 to 3 of AesGcmV1 and AesGcmCtrV1.
 #[derive(Debug, Drop)]
@@ -43,7 +44,7 @@ pub struct ColumnChunk {
 /// A row group.
 #[derive(Debug, Drop)]
 pub struct RowGroup {
-    pub chunks: Rows<ColumnChunk>,
+    pub chunks: Parts<ColumnChunk>,
     pub num_rows: i64,
     pub ordinal: Option<i16>,
 }
@@ -51,9 +52,9 @@ pub struct RowGroup {
 /// A file's footer.
 #[derive(Debug, Drop)]
 pub struct FileFields {
-    pub schema: Rows<SchemaElement>,
+    pub schema: Parts<SchemaElement>,
     pub num_rows: i64,
-    pub groups: Rows<RowGroup>,
+    pub groups: Parts<RowGroup>,
     pub algorithm: Option<AlgorithmMeta>,
     pub signing_key_metadata: Option<Bytes>,
 }

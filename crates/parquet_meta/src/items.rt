@@ -1,7 +1,7 @@
 // A list by its items, of which the first bad one decides.
 ghost use Rattle.std.specs.Prelude.{◌≡◌, ◌≤◌, length, OnOk};
 ghost use Rattle.parquet_meta.specs.Fields.{binary_of, list_of, items_of};
-ghost use Rattle.parquet_meta.specs.Meets.{MeetsField, MeetsItem, Adds, bad_items};
+ghost use Rattle.parquet_meta.specs.Meets.{MeetsField, MeetsItem, Adds, IsSame};
 ghost use Rattle.parquet_meta.specs.declared.met.Met.{Met};
 ghost use Rattle.thrift_compact.specs.Answers.{mapped, passed};
 ghost use Rattle.thrift_compact.specs.Reading.{value as value_at, element, elements};
@@ -9,6 +9,7 @@ ghost use Rattle.thrift_compact.specs.Standing.{room, GivesAt};
 ghost use Rattle.thrift_compact.specs.Tree.{Tree};
 
 use crate::met::Met;
+use crate::parts::Parts;
 use crate::values::binary_field;
 use pme_base::{Bytes, Rows};
 use std::alloc::Global;
@@ -50,7 +51,7 @@ pub(crate) fn list_field<I: Item>(
     alloc: Global,
     reader: &mut Reader<'_>,
     kind: TKind,
-) -> Result<Met<Rows<I>>, ThriftRefusal>
+) -> Result<Met<Parts<I>>, ThriftRefusal>
     ensures value { MeetsField (list_of I.item) kind reader.old reader.new result }
     ensures shorter { OnOk result (length reader.new.rest ≤ length reader.old.rest) }
 {
@@ -63,7 +64,37 @@ pub(crate) fn list_field<I: Item>(
     }
 }
 
-fn read_list<I: Item>(alloc: Global, reader: &mut Reader<'_>) -> Result<Met<Rows<I>>, ThriftRefusal>
+/// The list of names in a field.
+pub(crate) fn names_field(
+    alloc: Global,
+    reader: &mut Reader<'_>,
+    kind: TKind,
+) -> Result<Met<Rows<Bytes>>, ThriftRefusal>
+    ensures value { MeetsField (list_of binary_of) kind reader.old reader.new result }
+    ensures shorter { OnOk result (length reader.new.rest ≤ length reader.old.rest) }
+{
+    let met = list_field::<Bytes>(alloc, reader, kind)?;
+    as_rows(alloc, met)
+}
+
+fn as_rows(alloc: Global, met: Met<Parts<Bytes>>) -> Result<Met<Rows<Bytes>>, ThriftRefusal>
+    ensures { IsSame met result }
+{
+    Ok(match met {
+        Met::Absent => Met::Absent,
+        Met::Wrong => Met::Wrong,
+        Met::Refused(refused) => Met::Refused(refused),
+        Met::Is(parts) => match parts.into_rows(alloc) {
+            Ok(rows) => Met::Is(rows),
+            Err(_) => return Err(ThriftRefusal::OutOfMemory),
+        },
+    })
+}
+
+fn read_list<I: Item>(
+    alloc: Global,
+    reader: &mut Reader<'_>,
+) -> Result<Met<Parts<I>>, ThriftRefusal>
     ensures value { MeetsField (list_of I.item) TKind.List reader.old reader.new result }
     ensures shorter { OnOk result (length reader.new.rest ≤ length reader.old.rest) }
 {
@@ -79,11 +110,11 @@ fn read_items<I: Item>(
     reader: &mut Reader<'_>,
     kind: TKind,
     count: u32,
-) -> Result<Met<Rows<I>>, ThriftRefusal>
+) -> Result<Met<Parts<I>>, ThriftRefusal>
     ensures value { GivesAt (λ met. met) reader.old reader.new result (mapped (items_of I.item) (elements (element (value_at (room reader.old)) kind) count reader.old.rest)) }
     ensures shorter { OnOk result (length reader.new.rest ≤ length reader.old.rest) }
 {
-    let mut items = Rows::new(alloc);
+    let mut items = Parts::new(alloc);
     for turn in 0..count {
         match I::read_item(alloc, reader, kind)? {
             Met::Is(item) => add(&mut items, item)?,
@@ -96,7 +127,7 @@ fn read_items<I: Item>(
     Ok(Met::Is(items))
 }
 
-fn add<I: Drop>(items: &mut Rows<I>, item: I) -> Result<(), ThriftRefusal>
+fn add<I: Drop>(items: &mut Parts<I>, item: I) -> Result<(), ThriftRefusal>
     ensures { Adds items.old item items.new result }
 {
     match items.push(item) {

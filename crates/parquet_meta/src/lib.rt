@@ -5,17 +5,25 @@
 mod algorithm;
 mod chunk;
 mod column;
+mod column_rules;
 mod file_crypto;
 mod file_meta;
+mod file_rules;
+#[cfg(test)]
+mod file_rules_tests;
 mod footer;
 mod footer_parts;
+mod group_rules;
 mod items;
 mod met;
+mod met_fields;
+mod names;
 mod page;
 mod page_head;
 mod page_parts;
-mod met_fields;
+mod parts;
 mod signing;
+mod value_rules;
 mod values;
 
 pub use chunk::read_column_meta;
@@ -25,6 +33,7 @@ pub use file_meta::{
     AlgorithmMeta, ChunkCrypto, ChunkList, ChunkMeta, ColumnMeta, FileCrypto, FileMeta, GroupList,
     PathList, RowGroupMeta,
 };
+pub use footer::read_file_meta;
 pub use page::read_page_head;
 pub use page_head::{DataHead, DictionaryHead, PageHead};
 pub use signing::read_signing;

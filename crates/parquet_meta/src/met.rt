@@ -2,7 +2,8 @@ ghost use Rattle.std.specs.Prelude.{◌≡◌};
 ghost use Rattle.parquet_meta.specs.Fields as defined;
 ghost use Rattle.parquet_meta.specs.Meets.{bad_items};
 
-use pme_base::{Cause, Detail, Place, Refusal, Rows, StructName, refusal_at};
+use crate::parts::Parts;
+use pme_base::{Cause, Detail, Place, Refusal, StructName, refusal_at};
 
 /// A field that is missing, bad or unsupported: the cause, the struct, and the field's number in it.
 #[derive(Clone, Copy, Debug, PartialEq, Eq, Drop)]
@@ -44,7 +45,7 @@ impl<T: Drop> Met<T> {
     }
 
     /// The list whose first bad item this is.
-    pub(crate) fn as_items(self) -> Met<Rows<T>>
+    pub(crate) fn as_items(self) -> Met<Parts<T>>
         ensures { result ≡ bad_items self }
     {
         match self {

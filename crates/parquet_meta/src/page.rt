@@ -8,9 +8,9 @@ ghost use Rattle.parquet_meta.specs.Met.{data_counts_none, data_counts_step, dat
 ghost use Rattle.parquet_meta.specs.Structs.{data_counts_of, dictionary_counts_of, page_head_of, data_page as data_page_of, dictionary_page as dictionary_page_of, page_of_type as head_of_type};
 
 use crate::met::{FieldRefusal, Met};
+use crate::met_fields::{MetFields, read_front, struct_field};
 use crate::page_head::{DataHead, DictionaryHead, PageHead};
 use crate::page_parts::{DataCounts, DictionaryCounts};
-use crate::met_fields::{MetFields, read_front, struct_field};
 use crate::values::int32_field;
 use pme_base::{Cause, Place, Refusal, StructName};
 use std::alloc::Global;
