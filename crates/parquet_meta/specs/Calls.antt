@@ -54,3 +54,8 @@ file_crypto_at place bytes = struct_at place file_crypto bytes
 
 abbrev pub signing_at : Place → List ℕ → Result ((Option AlgorithmMeta × Option (List ℕ)) × ℕ) Refusal
 signing_at place bytes = struct_at place signing bytes
+
+-- the same as three values
+abbrev pub split_signing : Result ((Option AlgorithmMeta × Option (List ℕ)) × ℕ) Refusal → Result (Option AlgorithmMeta × Option (List ℕ) × ℕ) Refusal
+split_signing (Ok read) = Ok (read.0.0, read.0.1, read.1)
+split_signing (Err refusal) = Err refusal

@@ -2,24 +2,38 @@
 // read from their bytes with the first refusal by a fixed order, and written in canonical spelling.
 #![tactic(auto)]
 
+mod algorithm;
+mod chunk;
 mod column;
 mod column_rules;
+mod file_crypto;
 mod file_meta;
 mod file_rules;
 #[cfg(test)]
 mod file_rules_tests;
+mod footer;
 mod footer_parts;
 mod group_rules;
+mod items;
 mod met;
+mod met_fields;
 mod names;
+mod page;
 mod page_head;
 mod page_parts;
 mod parts;
+mod signing;
 mod value_rules;
+mod values;
 
+pub use chunk::read_column_meta;
 pub use column::{ColumnKind, ColumnSpec, FlatSchema};
+pub use file_crypto::read_file_crypto;
 pub use file_meta::{
     AlgorithmMeta, ChunkCrypto, ChunkList, ChunkMeta, ColumnMeta, FileCrypto, FileMeta, GroupList,
     PathList, RowGroupMeta,
 };
+pub use footer::read_file_meta;
+pub use page::read_page_head;
 pub use page_head::{DataHead, DictionaryHead, PageHead};
+pub use signing::read_signing;

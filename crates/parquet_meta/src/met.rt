@@ -1,6 +1,8 @@
 ghost use Rattle.std.specs.Prelude.{◌≡◌};
 ghost use Rattle.parquet_meta.specs.Fields as defined;
+ghost use Rattle.parquet_meta.specs.Meets.{bad_items};
 
+use crate::parts::Parts;
 use pme_base::{Cause, Detail, Place, Refusal, StructName, refusal_at};
 
 /// A field that is missing, bad or unsupported: the cause, the struct, and the field's number in it.
@@ -32,6 +34,26 @@ pub fn field_refusal(place: Place, refused: FieldRefusal) -> Refusal
 }
 
 impl<T: Drop> Met<T> {
+    /// A value that may be refused, as it is met.
+    pub(crate) fn of(checked: Result<T, FieldRefusal>) -> Met<T>
+        ensures { result ≡ defined.of_checked checked }
+    {
+        match checked {
+            Ok(value) => Met::Is(value),
+            Err(refused) => Met::Refused(refused),
+        }
+    }
+
+    /// The list whose first bad item this is.
+    pub(crate) fn as_items(self) -> Met<Parts<T>>
+        ensures { result ≡ bad_items self }
+    {
+        match self {
+            Met::Refused(refused) => Met::Refused(refused),
+            _ => Met::Wrong,
+        }
+    }
+
     /// The value of a field that may be absent.
     pub fn optional(self, name: StructName, field: i16) -> Result<Option<T>, FieldRefusal>
         ensures { result ≡ defined.optional name field self }

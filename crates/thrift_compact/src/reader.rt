@@ -1,8 +1,8 @@
 // A typed reader: its caller says what it expects, and nothing is built.
 ghost use Rattle.std.specs.Prelude.{◌≡◌, ◌≢◌, ℕ, ◌-◌, ◌<◌, ◌≤◌, [], ◌∷◌, length, OnOk, IfErr};
-ghost use Rattle.thrift_compact.specs.Answers.{Gives};
+ghost use Rattle.thrift_compact.specs.Answers.{Gives, passed};
 ghost use Rattle.thrift_compact.specs.declared.frame.Frame.TheVariants as frame;
-ghost use Rattle.thrift_compact.specs.Reading.{value as value_at, field_head as field_head_at};
+ghost use Rattle.thrift_compact.specs.Reading.{element as element_at, value as value_at, field_head as field_head_at};
 ghost use Rattle.thrift_compact.specs.Standing.{room, IsStruct, ids_of, head_of, TakesHead, IsList, BeginsStruct, BeginsList, ReadsField, Closes, GivesAt, Skips, IsWholeKind, whole_tree};
 ghost use Rattle.thrift_compact.specs.Tree.{binary as binary_tree};
 
@@ -12,7 +12,7 @@ use crate::heads::{field_head, list_head};
 use crate::ids::Ids;
 use crate::kind::TKind;
 use crate::refusal::ThriftRefusal;
-use crate::skip::skip_value;
+use crate::skip::{skip_element, skip_value};
 use std::alloc::Global;
 use std::collections::VecDeque;
 use std::marker::Model;
@@ -137,6 +137,18 @@ impl<'a> Reader<'a> {
             return Err(stop.refusal(self.size));
         }
         Ok(())
+    }
+
+    /// Passes an element of a list or a set. A boolean takes a byte there.
+    pub fn skip_element(&mut self, kind: TKind) -> Result<(), ThriftRefusal>
+        ensures value { GivesAt (λ u. u) self.old self.new result (passed (element_at (value_at (room self.old)) kind self.old.rest)) }
+        ensures shorter { OnOk result (length self.new.rest ≤ length self.old.rest) }
+    {
+        let room = self.room();
+        match skip_element(self.alloc, &mut self.cursor, room, kind) {
+            Ok(()) => Ok(()),
+            Err(stop) => Err(stop.refusal(self.size)),
+        }
     }
 
     // How many more structs, lists, sets and maps may be opened.

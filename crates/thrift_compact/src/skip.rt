@@ -51,7 +51,12 @@ pub(crate) fn skip_value(
 
 /// Passes an element, a key or a value of a map: there a boolean has a byte of its own.
 #[cycle(skip)]
-fn skip_element(alloc: Global, cursor: &mut Cursor<'_>, room: u32, kind: TKind) -> Result<(), Stop>
+pub(crate) fn skip_element(
+    alloc: Global,
+    cursor: &mut Cursor<'_>,
+    room: u32,
+    kind: TKind,
+) -> Result<(), Stop>
     ensures value { Gives (λ u. u) result cursor.new (passed (element (value_at room) kind cursor.old)) }
     ensures shorter { OnOk result (length cursor.new ≤ length cursor.old) }
 {
