@@ -2,6 +2,7 @@ pub mod Answers
 pub use Rattle.hex.specs.Hex
 pub mod Calls
 pub mod Faults
+pub mod Described
 pub mod Grammar
 pub mod Kinds
 pub mod Laws

@@ -6,6 +6,7 @@ use Rattle.thrift_compact.specs.declared.kind.TKind.TheVariants as kind
 use Rattle.thrift_compact.specs.declared.writer.Part.{Part}
 use Rattle.thrift_compact.specs.declared.writer.Part.TheVariants as part
 use Rattle.thrift_compact.specs.Calls as call
+use Rattle.thrift_compact.specs.Proper.{IsSmall}
 use Rattle.thrift_compact.specs.Spelling.{spelling, field_head_of, list_head_of}
 use Rattle.thrift_compact.specs.Tree.{Tree, truth, int8, int16, int32, int64, binary, kind_of_tree}
 
@@ -37,10 +38,6 @@ IsWhole kind.I16 z = FitsSigned w16 z
 IsWhole kind.I32 z = FitsSigned w32 z
 IsWhole kind.I64 z = FitsSigned w64 z
 IsWhole k z = ⊥
-
--- sizes and lengths lie below 2 ^ 31
-abbrev pub IsSize : ℕ → Type 0
-IsSize n = n < 2147483648
 
 -- the id that the next field's distance counts from: 0 before the first
 abbrev pub id_before : Part → ℤ
@@ -133,9 +130,9 @@ abbrev pub May : call.Call → Draft → Type 0
 May call.struct_begin d = MayBegin d.inner × HasRoom d
 May (call.whole id k z) d = Follows id d.inner × IsWhole k z
 May (call.truth id t) d = Follows id d.inner
-May (call.binary id bytes) d = Follows id d.inner × IsSize (length bytes)
+May (call.binary id bytes) d = Follows id d.inner × IsSmall (length bytes)
 May (call.struct_field id) d = Follows id d.inner × HasRoom d
-May (call.list_field id k n) d = Follows id d.inner × HasRoom d × IsSize n
+May (call.list_field id k n) d = Follows id d.inner × HasRoom d × IsSmall n
 May (call.item_whole z) d = Awaits (item_kind d.inner) d.inner × IsWhole (item_kind d.inner) z
-May (call.item_binary bytes) d = Awaits kind.Binary d.inner × IsSize (length bytes)
+May (call.item_binary bytes) d = Awaits kind.Binary d.inner × IsSmall (length bytes)
 May call.struct_end d = IsStruct d.inner

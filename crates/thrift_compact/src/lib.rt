@@ -21,6 +21,9 @@ mod reader;
 mod skip;
 mod tree;
 mod writer;
+#[cfg(test)]
+mod writer_tests;
+mod writing_laws;
 
 pub use canonical::spell;
 pub use frame::FieldHead;
@@ -33,6 +36,7 @@ pub use read::read_tree;
 pub use reader::Reader;
 pub use refusal::ThriftRefusal;
 pub use show::show_tree;
-pub use spelling_laws::canonical_is_spelled;
+pub use spelling_laws::{canonical_is_spelled, ordered_is_arranged, spelled_is_proper};
 pub use tree::{TFields, TList, TMap, TVal};
 pub use writer::Writer;
+pub use writing_laws::writes_the_canonical_spelling;

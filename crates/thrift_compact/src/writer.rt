@@ -4,8 +4,9 @@ ghost use Rattle.thrift_compact.specs.Spelling.{spelling, field_head_of, list_he
 ghost use Rattle.thrift_compact.specs.Tree.{kind_of_tree, truth as truth_tree, binary as binary_tree};
 ghost use Rattle.thrift_compact.specs.Writing.{new_draft, after, May, IsWhole, whole_tree, id_before, item_kind, named_kind, one_less, with_field, resumed};
 
+use crate::canonical::{cut, put_binary};
 use crate::kind::TKind;
-use crate::put::{put_field_head, put_int8, put_list_head, put_number, put_varint};
+use crate::put::{put_field_head, put_int8, put_list_head, put_number};
 use pme_base::{Bytes, OutOfMemory};
 use std::alloc::Global;
 use std::collections::VecDeque;
@@ -259,9 +260,7 @@ fn cut_unless(
     ensures cut { OnErr put (into.new ≡ take length into.old) }
 {
     if put.is_err() {
-        let mut bytes = into.take();
-        bytes.truncate(length);
-        *into = Bytes::from_vec(bytes);
+        cut(into, length);
     }
     put
 }
@@ -290,14 +289,6 @@ fn put_whole_field(
 {
     put_field_head(into, before, id, kind)?;
     put_whole(into, kind, value)
-}
-
-fn put_binary(into: &mut Bytes, bytes: &[u8]) -> Result<(), OutOfMemory>
-    ensures ok { OnOk result (into.new ≡ into.old ++ spelling (binary_tree bytes.now)) }
-    ensures kept { OnErr result (Extends into.old into.new) }
-{
-    put_varint(into, bytes.len() as u64)?;
-    into.extend(bytes)
 }
 
 fn put_binary_field(into: &mut Bytes, before: i16, id: i16, bytes: &[u8]) -> Result<(), OutOfMemory>
