@@ -8,6 +8,9 @@ mod footer_parts;
 mod met;
 mod page_head;
 mod page_parts;
+mod put_algorithm;
+mod put_fields;
+mod put_page_head;
 
 pub use column::{ColumnKind, ColumnSpec, FlatSchema};
 pub use file_meta::{
@@ -15,3 +18,4 @@ pub use file_meta::{
     PathList, RowGroupMeta,
 };
 pub use page_head::{DataHead, DictionaryHead, PageHead};
+pub use put_page_head::write_page_head;
