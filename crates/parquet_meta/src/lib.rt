@@ -8,6 +8,7 @@ mod footer_parts;
 mod met;
 mod page_head;
 mod page_parts;
+mod plan;
 mod put_algorithm;
 mod put_fields;
 mod put_page_head;
@@ -18,4 +19,6 @@ pub use file_meta::{
     PathList, RowGroupMeta,
 };
 pub use page_head::{DataHead, DictionaryHead, PageHead};
+pub use plan::{FooterPlan, WrittenChunk, WrittenChunks, WrittenGroup, WrittenGroups};
+pub use put_algorithm::write_file_crypto;
 pub use put_page_head::write_page_head;

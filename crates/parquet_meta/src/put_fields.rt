@@ -1,6 +1,6 @@
 // Fields that are there only where there is something to say.
-ghost use Rattle.std.specs.Prelude.{◌≡◌, OnOk};
-ghost use Rattle.thrift_compact.specs.Tree.{binary as binary_tree, no_fields};
+ghost use Rattle.std.specs.Prelude.{◌≡◌, true, OnOk};
+ghost use Rattle.thrift_compact.specs.Tree.{binary as binary_tree, truth as truth_tree, no_fields};
 ghost use Rattle.thrift_compact.specs.Writing.{Follows};
 ghost use Rattle.parquet_meta.specs.Fitting.{AreFew};
 ghost use Rattle.parquet_meta.specs.Plans.{where_some, where_true};
@@ -27,7 +27,7 @@ pub fn put_optional(writer: &mut Writer, id: i16, bytes: &Option<Bytes>) -> Resu
 #[tactic(auto, using(crate::proofs::PutFields::follows_later))]
 pub fn put_flag(writer: &mut Writer, id: i16, flag: bool) -> Result<(), OutOfMemory>
     requires { Follows id writer.old.inner }
-    ensures fields { OnOk result (writer.new ≡ with_fields (where_true id flag no_fields) writer.old) }
+    ensures fields { OnOk result (writer.new ≡ with_fields (where_true id (truth_tree true) flag no_fields) writer.old) }
     ensures last { OnOk result (IsUpTo id writer.new.inner) }
     ensures outer { OnOk result (writer.new.outer ≡ writer.old.outer) }
 {
