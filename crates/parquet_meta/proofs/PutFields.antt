@@ -1,5 +1,5 @@
 -- What a struct's fields and its stop byte spell, as they are written one after the other.
-use Rattle.std.proofs.Common.{◌≡◌, ℕ, ℤ, pos, ◌+ℤ◌, ◌<ℤ◌, arith, List, [], ◌∷◌, ◌++◌, Option, Some, None, refl, ◌∙◌, ap}
+use Rattle.std.proofs.Common.{◌≡◌, ℕ, ℤ, pos, ◌+ℤ◌, ◌<ℤ◌, arith, Bool, true, false, List, [], ◌∷◌, ◌++◌, Option, Some, None, refl, ◌∙◌, ap}
 use Rattle.thrift_compact.specs.declared.kind.TKind.{TKind}
 use Rattle.thrift_compact.specs.declared.kind.TKind.TheVariants as kind
 use Rattle.thrift_compact.specs.declared.writer.Part.{Part}
@@ -11,7 +11,7 @@ use Rattle.thrift_compact.specs.Writing.{Draft, new_draft, finished, after, resu
 use Rattle.std.proofs.lemmas.Int.{ints}
 use Rattle.thrift_compact.proofs.Written.{draft, past_head, past_value}
 use Rattle.parquet_meta.specs.Putting.{with_value, with_fields, IsUpTo}
-use Rattle.parquet_meta.specs.Plans.{where_some}
+use Rattle.parquet_meta.specs.Plans.{where_some, where_true}
 
 -- the fields and the stop byte
 pub ended :
@@ -71,3 +71,7 @@ in_struct_still id (part.List k n) upto = upto (id +ℤ pos 1) (omega (arith, in
 pub some_first : {X : Type 0} (id : ℤ) (value : X → Tree) (o : Option X) (others : Fields) (d : Draft) → with_fields (where_some id value o others) d ≡ with_fields others (with_fields (where_some id value o no_fields) d)
 some_first id value None others d = refl
 some_first id value (Some x) others d = refl
+
+pub true_first : (id : ℤ) (t : Tree) (flag : Bool) (others : Fields) (d : Draft) → with_fields (where_true id t flag others) d ≡ with_fields others (with_fields (where_true id t flag no_fields) d)
+true_first id t false others d = refl
+true_first id t true others d = refl

@@ -10,6 +10,7 @@ mod page_head;
 mod page_parts;
 mod plan;
 mod put_algorithm;
+mod put_column;
 mod put_fields;
 mod put_page_head;
 
@@ -21,4 +22,5 @@ pub use file_meta::{
 pub use page_head::{DataHead, DictionaryHead, PageHead};
 pub use plan::{FooterPlan, WrittenChunk, WrittenChunks, WrittenGroup, WrittenGroups};
 pub use put_algorithm::write_file_crypto;
+pub use put_column::write_column_meta;
 pub use put_page_head::write_page_head;
