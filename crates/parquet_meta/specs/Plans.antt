@@ -150,8 +150,8 @@ schema_root columns =
     (field (pos 5) (int32 (pos columns)) no_fields)
 
 -- the bytes of a value of a type of fixed length
-abbrev pub fixed_length : ColumnKind → Option ℕ
-fixed_length (kind.Fixed length) = Some length
+abbrev pub fixed_length : ColumnKind → Option ℤ
+fixed_length (kind.Fixed length) = Some (pos length)
 fixed_length _ = None
 
 -- REQUIRED is 0 and OPTIONAL 1
@@ -163,13 +163,18 @@ repetition true = pos 1
 abbrev pub schema_column : ColumnSpec → Fields
 schema_column column =
     field (pos 1) (int32 (kind_number column.kind))
-    (where_some (pos 2) (λ n. int32 (pos n)) (fixed_length column.kind)
+    (where_some (pos 2) int32 (fixed_length column.kind)
     (field (pos 3) (int32 (repetition column.optional))
     (field (pos 4) (binary column.name)
     (where_true (pos 6) (int32 (pos 0)) column.text no_fields))))
 
 abbrev pub schema : List ColumnSpec → List Fields
 schema columns = schema_root (length columns) ∷ map schema_column columns
+
+-- the algorithm of a signed footer
+abbrev pub signing_algorithm : Option AlgorithmMeta → Option Fields
+signing_algorithm None = None
+signing_algorithm (Some algorithm) = Some (encryption_algorithm algorithm)
 
 -- FileMetaData of version 1, created by `pme`
 abbrev pub file_meta_data : FooterPlan → Fields
@@ -179,5 +184,5 @@ file_meta_data plan =
     (field (pos 3) (int64 plan.num_rows)
     (field (pos 4) (list (structs (row_groups 0 plan.groups)))
     (field (pos 6) (binary (112 ∷ 109 ∷ 101 ∷ []))
-    (where_some (pos 8) (λ algorithm. struct (encryption_algorithm algorithm)) plan.algorithm
+    (where_some (pos 8) struct (signing_algorithm plan.algorithm)
     (where_some (pos 9) binary plan.signing_key_metadata no_fields))))))

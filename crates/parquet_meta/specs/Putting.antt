@@ -1,5 +1,5 @@
 -- What is written field by field and item by item, in the words of the tree.
-use Rattle.std.specs.Prelude.{ℕ, ◌+◌, ◌<◌, ℤ, ◌<ℤ◌, List, [], ◌∷◌, length}
+use Rattle.std.specs.Prelude.{ℕ, ◌+◌, ◌*◌, ◌<◌, ℤ, pos, ◌+ℤ◌, ◌<ℤ◌, ◌≤ℤ◌, List, [], ◌∷◌, length}
 use Rattle.thrift_compact.specs.declared.writer.Part.{Part}
 use Rattle.thrift_compact.specs.Spelling.{spelling}
 use Rattle.thrift_compact.specs.Tree.{Tree, struct, Trees, no_trees, tree, Fields, no_fields, field, kind_of_tree}
@@ -21,3 +21,8 @@ HasDepth depth d = length d.outer + depth < 32
 -- fields of greater ids may follow
 abbrev pub IsUpTo : ℤ → Part → Type 0
 IsUpTo id inner = (next : ℤ) → id <ℤ next → Follows next inner
+
+-- a sum of so many numbers of 64 bits
+pub record IsWithin (n : ℕ) (z : ℤ) : Type 0 where
+  pub low : pos 0 ≤ℤ (z +ℤ pos (n * 9223372036854775808))
+  pub high : z ≤ℤ pos (n * 9223372036854775808)

@@ -12,7 +12,10 @@ mod plan;
 mod put_algorithm;
 mod put_column;
 mod put_fields;
+mod put_footer;
+mod put_group;
 mod put_page_head;
+mod put_schema;
 
 pub use column::{ColumnKind, ColumnSpec, FlatSchema};
 pub use file_meta::{
@@ -23,4 +26,5 @@ pub use page_head::{DataHead, DictionaryHead, PageHead};
 pub use plan::{FooterPlan, WrittenChunk, WrittenChunks, WrittenGroup, WrittenGroups};
 pub use put_algorithm::write_file_crypto;
 pub use put_column::write_column_meta;
+pub use put_footer::write_file_meta;
 pub use put_page_head::write_page_head;

@@ -157,7 +157,7 @@ fn put_crypto(writer: &mut Writer, name: &Bytes, crypto: &ChunkCrypto) -> Result
 }
 
 #[tactic(auto, using(crate::proofs::PutFields::some_first, crate::proofs::PutFields::true_first))]
-fn put_chunk_fields(writer: &mut Writer, chunk: &WrittenChunk) -> Result<(), OutOfMemory>
+pub fn put_chunk_fields(writer: &mut Writer, chunk: &WrittenChunk) -> Result<(), OutOfMemory>
     requires { (writer.old.inner ≡ part.Struct None) × HasDepth 3 writer.old × FitsChunk chunk.now }
     ensures fields { OnOk result (writer.new ≡ with_fields (column_chunk chunk.now) writer.old) }
     ensures last { OnOk result (IsUpTo (pos 9) writer.new.inner) }
