@@ -9,6 +9,8 @@ mod met;
 mod page_head;
 mod page_parts;
 mod plan;
+#[cfg(test)]
+mod plan_tests;
 mod put_algorithm;
 mod put_column;
 mod put_fields;
