@@ -75,7 +75,7 @@ of_kind : (room : ℕ) (k : TKind) (ts : Trees) → AllLaid room k ts → AllOfK
 of_kind room k no_trees laid = tt
 of_kind room k (tree t ts) laid = (laid.0, of_kind room k ts laid.2)
 
-distinct_ids : (room : ℕ) (fs : Fields) → AreLaid room below_ids fs → AreDistinct (ids_of fs)
+pub distinct_ids : (room : ℕ) (fs : Fields) → AreLaid room below_ids fs → AreDistinct (ids_of fs)
 distinct_ids room fs laid =
     subst (λ gs. AreDistinct (ids_of gs)) (fields_stay room below_ids fs laid) (ascending_new below_ids [] (ordered_parts fs) tt (laid_ascend room below_ids fs laid))
 

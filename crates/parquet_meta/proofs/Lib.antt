@@ -3,3 +3,6 @@ pub mod PutLists
 pub mod PutSums
 pub mod Laid
 pub mod PlansLaid
+pub mod LaidSpelled
+pub mod PlansRead
+pub mod ReadBackProved

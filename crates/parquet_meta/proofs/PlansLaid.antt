@@ -73,9 +73,26 @@ path_laid : (room : ℕ) (name : List ℕ) → IsSmall (length name) → IsLaid 
 path_laid room name few = (room, refl, omega arith, (refl, few, tt))
 
 pub column_meta_laid : (room : ℕ) (chunk : WrittenChunk) → IsSmall (length chunk.spec.name) → IsLaid (suc (suc room)) (struct (column_meta_data chunk))
-column_meta_laid room chunk few =
-    (suc room, refl, (refl, refl, tt, (refl, refl, (room, refl, omega arith, (refl, tt, (refl, tt, tt))), (refl, refl, path_laid room chunk.spec.name few,
-    (refl, refl, tt, (refl, refl, tt, (refl, refl, tt, (refl, refl, tt, (refl, refl, tt, tt)))))))))
+column_meta_laid room chunk few = (
+  suc room,
+  refl,
+  (
+    refl,
+    refl,
+    tt,
+    (
+      refl,
+      refl,
+      (room, refl, omega arith, (refl, tt, (refl, tt, tt))),
+      (
+        refl,
+        refl,
+        path_laid room chunk.spec.name few,
+        (refl, refl, tt, (refl, refl, tt, (refl, refl, tt, (refl, refl, tt, (refl, refl, tt, tt))))),
+      ),
+    ),
+  ),
+)
 
 column_key_laid : (room : ℕ) (name : List ℕ) (metadata : Option (List ℕ)) → IsSmall (length name) → AreFew metadata → AreLaid (suc room) below_ids (column_key name metadata)
 column_key_laid room name metadata few fits =
@@ -119,9 +136,16 @@ chunks_laid room chunks few fits =
     (All-map P column_chunk chunks (All-weaker FitsChunk (λ chunk. P (column_chunk chunk)) (λ chunk fit. column_chunk_laid room chunk fit) chunks fits))
 
 row_group_laid : (room position : ℕ) (group : WrittenGroup) → FitsGroup group → IsLaid (suc (suc (suc (suc (suc (suc room)))))) (struct (row_group position group))
-row_group_laid room position group fits =
-    (suc (suc (suc (suc (suc room)))), refl, (refl, refl, chunks_laid room group.chunks fits.few fits.chunks,
-    (refl, refl, tt, (refl, refl, tt, (refl, refl, tt, (refl, refl, tt, (refl, refl, tt, tt)))))))
+row_group_laid room position group fits = (
+  suc (suc (suc (suc (suc room)))),
+  refl,
+  (
+    refl,
+    refl,
+    chunks_laid room group.chunks fits.few fits.chunks,
+    (refl, refl, tt, (refl, refl, tt, (refl, refl, tt, (refl, refl, tt, (refl, refl, tt, tt))))),
+  ),
+)
 
 row_groups_laid : (room position : ℕ) (groups : List WrittenGroup) → All FitsGroup groups → All (λ fs. IsLaid (suc (suc (suc (suc (suc (suc room)))))) (struct fs)) (row_groups position groups)
 row_groups_laid room position [] fits = All-nil (λ fs. IsLaid (suc (suc (suc (suc (suc (suc room)))))) (struct fs))

@@ -65,7 +65,7 @@ list_begun id fss d now n counted begun =
     let head = field_head_of (id_before d.inner) id kind.List in
     let named = list_head_of (named_kind kind.Struct n) n in
     let same : named ≡ list_head_of (items_kind (structs fss)) (count (structs fss)) =
-        ap (λ k. list_head_of k n) (struct_named n ∙ sym (structs_kind fss)) ∙ ap (list_head_of (items_kind (structs fss))) (counted ∙ sym (structs_count fss)) in
+    ap (λ k. list_head_of k n) (struct_named n ∙ sym (structs_kind fss)) ∙ ap (list_head_of (items_kind (structs fss))) (counted ∙ sym (structs_count fss)) in
     record {
       out = d.out ++ (head ++ named);
       outer = part.Struct (Some id) ∷ d.outer;

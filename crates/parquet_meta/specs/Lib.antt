@@ -5,3 +5,4 @@ pub mod Calls
 pub mod Plans
 pub mod Putting
 pub mod Fitting
+pub mod ReadBack

@@ -18,6 +18,7 @@ mod put_footer;
 mod put_group;
 mod put_page_head;
 mod put_schema;
+mod writing_laws;
 
 pub use column::{ColumnKind, ColumnSpec, FlatSchema};
 pub use file_meta::{
@@ -30,3 +31,4 @@ pub use put_algorithm::write_file_crypto;
 pub use put_column::write_column_meta;
 pub use put_footer::write_file_meta;
 pub use put_page_head::write_page_head;
+pub use writing_laws::what_is_written_is_read;

@@ -40,7 +40,11 @@ fn put_algorithm_fields(writer: &mut Writer, algorithm: &AlgorithmMeta) -> Resul
 
 /// An EncryptionAlgorithm as a field.
 #[tactic(auto, using(crate::proofs::PutFields::field_put, crate::proofs::PutFields::in_struct_still))]
-pub fn put_algorithm(writer: &mut Writer, id: i16, algorithm: &AlgorithmMeta) -> Result<(), OutOfMemory>
+pub fn put_algorithm(
+    writer: &mut Writer,
+    id: i16,
+    algorithm: &AlgorithmMeta,
+) -> Result<(), OutOfMemory>
     requires { Follows id writer.old.inner × HasDepth 2 writer.old × FitsAlgorithm algorithm.now }
     ensures { OnOk result (writer.new ≡ with_value id (struct_tree (encryption_algorithm algorithm.now)) writer.old) }
 {

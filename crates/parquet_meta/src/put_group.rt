@@ -131,11 +131,7 @@ fn put_group_fields(
 }
 
 #[tactic(auto, using(crate::proofs::PutLists::item_put, crate::proofs::PutLists::around_length, crate::proofs::PutFields::in_struct_still))]
-fn put_group(
-    writer: &mut Writer,
-    position: u16,
-    group: &WrittenGroup,
-) -> Result<(), OutOfMemory>
+fn put_group(writer: &mut Writer, position: u16, group: &WrittenGroup) -> Result<(), OutOfMemory>
     requires { Awaits kind.Struct writer.old.inner × HasDepth 6 writer.old × FitsGroup group.now × (position < 32768) }
     ensures { OnOk result (writer.new ≡ with_item (spelling (struct_tree (row_group position group.now))) writer.old) }
 {
