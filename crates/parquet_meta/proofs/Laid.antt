@@ -1,5 +1,5 @@
 -- A tree whose ids ascend, within the limits of sizes and depth: its canonical spelling is its spelling.
-use Rattle.std.proofs.Common.{◌≡◌, ℕ, suc, ◌<◌, ℤ, pos, int_lt, Bool, true, ◌&&◌, FitsSigned, w16, List, [], length, refl, sym, ◌∙◌, ap, subst, arith}
+use Rattle.std.proofs.Common.{◌≡◌, ℕ, suc, ℤ, pos, int_lt, Bool, true, ◌&&◌, FitsSigned, w16, [], length, refl, ◌∙◌, ap, subst, arith}
 use Rattle.std.proofs.lemmas.Int.{ints}
 use Rattle.thrift_compact.specs.declared.kind.TKind.{TKind}
 use Rattle.thrift_compact.specs.Ordered.{ascend}

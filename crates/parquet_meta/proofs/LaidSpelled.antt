@@ -1,5 +1,5 @@
 -- The spelling of a tree that is laid is in the grammar, and is read as that tree.
-use Rattle.std.proofs.Common.{◌≡◌, ℕ, suc, ◌-◌, ◌<◌, ℤ, pos, true, false, List, [], ◌∷◌, ◌++◌, length, length-append, Result, Ok, Err, refl, sym, ◌∙◌, ap, subst, arith}
+use Rattle.std.proofs.Common.{◌≡◌, ℕ, ◌-◌, ℤ, true, false, List, [], ◌∷◌, ◌++◌, length, length-append, Ok, refl, sym, ◌∙◌, ap, subst, arith}
 use Rattle.pme_base.specs.declared.place.Place.{Place}
 use Rattle.pme_base.specs.Steps.{◌>>=◌}
 use Rattle.thrift_compact.specs.declared.kind.TKind.{TKind}
@@ -7,7 +7,7 @@ use Rattle.thrift_compact.specs.declared.kind.TKind.TheVariants as kind
 use Rattle.thrift_compact.specs.Grammar.{Spells, AllSpell, SpellsFields, Within}
 use Rattle.thrift_compact.specs.Proper.{ids_of, AreNew}
 use Rattle.thrift_compact.specs.Reading.{last, whole_struct}
-use Rattle.thrift_compact.specs.Spelling.{varint_of, element_kind, items_kind, list_head_of, field_head_of, within, spelling, items_spelling, fields_spelling, below_ids, canonical}
+use Rattle.thrift_compact.specs.Spelling.{varint_of, element_kind, items_kind, list_head_of, field_head_of, within, spelling, items_spelling, fields_spelling, below_ids}
 use Rattle.thrift_compact.specs.Tree.{Tree, truth, int8, int16, int32, int64, double, binary, list, set, map, struct, Trees, no_trees, tree, Fields, no_fields, field, count, kind_of_tree}
 use Rattle.thrift_compact.proofs.Numerals.{int8_is, int16_is, int32_is, int64_is, size_is, list_head_is, field_head_is}
 use Rattle.thrift_compact.proofs.Spelled.{last_is, within_is}

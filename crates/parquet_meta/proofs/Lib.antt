@@ -6,3 +6,4 @@ pub mod PlansLaid
 pub mod LaidSpelled
 pub mod PlansRead
 pub mod ReadBackProved
+pub mod PlanTests

@@ -1,5 +1,5 @@
 -- The trees of the plans have ascending ids, and keep the limits where the plans fit.
-use Rattle.std.proofs.Common.{◌≡◌, ℕ, suc, ◌+◌, ◌<◌, ◌≤◌, ℤ, pos, int_lt, Bool, true, false, List, [], ◌∷◌, length, map as map_list, Option, Some, None, refl, sym, ◌∙◌, ap, subst, arith}
+use Rattle.std.proofs.Common.{◌≡◌, ℕ, suc, ◌+◌, ◌<◌, ℤ, pos, int_lt, Bool, true, false, List, [], ◌∷◌, length, map as map_list, Option, Some, None, refl, sym, ◌∙◌, ap, subst, arith}
 use Rattle.std.specs.List.{All}
 use Rattle.std.proofs.lemmas.Int.{ints}
 use Rattle.std.proofs.lemmas.List.{length-map}
@@ -8,7 +8,7 @@ use Rattle.std.proofs.Math.Numerals.{add-one}
 use Rattle.thrift_compact.specs.declared.kind.TKind.TheVariants as kind
 use Rattle.thrift_compact.specs.Proper.{IsSmall}
 use Rattle.thrift_compact.specs.Spelling.{below_ids, items_kind}
-use Rattle.thrift_compact.specs.Tree.{Tree, struct, binary, int32, list, Trees, Fields, no_fields, field, count}
+use Rattle.thrift_compact.specs.Tree.{Tree, struct, binary, int32, list, Fields, no_fields, field, count}
 use Rattle.parquet_meta.specs.declared.column.ColumnKind.{ColumnKind}
 use Rattle.parquet_meta.specs.declared.column.ColumnKind.TheVariants as column_kind
 use Rattle.parquet_meta.specs.declared.column.ColumnSpec.{ColumnSpec}

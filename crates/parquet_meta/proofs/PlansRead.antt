@@ -1,13 +1,10 @@
 -- The trees of the plans have the values of the plans under their numbers.
-use Rattle.std.proofs.Common.{◌≡◌, ℕ, ◌+◌, ℤ, pos, Bool, true, false, List, [], ◌∷◌, length, map as map_list, Option, Some, None, Ok, refl, sym, ◌∙◌, ap}
-use Rattle.thrift_compact.specs.Tree.{Tree, struct, binary, int32, int64, list, truth, Trees, Fields, no_fields, field}
+use Rattle.std.proofs.Common.{◌≡◌, ℕ, ◌+◌, ℤ, pos, Bool, true, false, List, [], ◌∷◌, length, map as map_list, Option, Some, None, Ok, refl, ◌∙◌, ap}
+use Rattle.thrift_compact.specs.Tree.{struct, binary, int32, int64, list, truth, Trees, Fields, no_fields, field}
 use Rattle.parquet_meta.specs.declared.column.ColumnSpec.{ColumnSpec}
 use Rattle.parquet_meta.specs.declared.file_meta.AlgorithmMeta.{AlgorithmMeta}
 use Rattle.parquet_meta.specs.declared.file_meta.ChunkCrypto.{ChunkCrypto}
 use Rattle.parquet_meta.specs.declared.file_meta.ChunkCrypto.TheVariants as key
-use Rattle.parquet_meta.specs.declared.footer_parts.AesGcm.{AesGcm}
-use Rattle.parquet_meta.specs.declared.footer_parts.FileFields.{FileFields}
-use Rattle.parquet_meta.specs.declared.footer_parts.SchemaElement.{SchemaElement}
 use Rattle.parquet_meta.specs.declared.met.Met.{Met}
 use Rattle.parquet_meta.specs.declared.met.Met.TheVariants as met
 use Rattle.parquet_meta.specs.declared.page_head.DataHead.{DataHead}
@@ -16,7 +13,7 @@ use Rattle.parquet_meta.specs.declared.plan.FooterPlan.{FooterPlan}
 use Rattle.parquet_meta.specs.declared.plan.WrittenChunk.{WrittenChunk}
 use Rattle.parquet_meta.specs.declared.plan.WrittenGroup.{WrittenGroup}
 use Rattle.parquet_meta.specs.Fields.{Checked, of_checked, struct_of, items_of, onto_items}
-use Rattle.parquet_meta.specs.Plans.{where_some, where_true, structs, page_header, aes_gcm, algorithm_id, encryption_algorithm, file_crypto_meta_data, kind_number, column_meta_data, column_crypto, column_chunk, row_group, row_groups, schema_root, schema_column, schema, fixed_length, repetition, signing_algorithm, file_meta_data}
+use Rattle.parquet_meta.specs.Plans.{where_some, where_true, structs, page_header, aes_gcm, algorithm_id, encryption_algorithm, file_crypto_meta_data, kind_number, column_meta_data, column_crypto, column_chunk, row_group, row_groups, schema_column, schema, fixed_length, repetition, signing_algorithm, file_meta_data}
 use Rattle.parquet_meta.specs.ReadBack.{chunk_meta, shown_meta, chunk_key, chunk_part, group_part, group_parts, root_part, column_part, converted_part, plan_fields, signed_by}
 use Rattle.parquet_meta.specs.Structs as read
 

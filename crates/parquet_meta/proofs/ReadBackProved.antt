@@ -1,7 +1,7 @@
 -- What was written is read again.
-use Rattle.std.proofs.Common.{◌≡◌, ℕ, pos, Bool, true, false, List, ◌++◌, length, Option, Some, None, Ok, refl, ◌∙◌, ap}
+use Rattle.std.proofs.Common.{ℕ, pos, Bool, true, false, List, Option, Some, None, Ok, ap}
 use Rattle.pme_base.specs.Steps.{◌>>=◌}
-use Rattle.thrift_compact.specs.Tree.{struct, binary, truth, no_fields, field}
+use Rattle.thrift_compact.specs.Tree.{binary, truth, no_fields, field}
 use Rattle.parquet_meta.specs.declared.page_head.PageHead.TheVariants.{Data}
 use Rattle.parquet_meta.specs.FileRules.{file_of}
 use Rattle.parquet_meta.specs.Plans.{where_some, where_true, page_header, file_crypto_meta_data, column_meta_data, file_meta_data}

@@ -1,6 +1,6 @@
 -- What a plan must keep so that each of its numbers, lists and byte lists fits its field: lengths and counts are below
 -- 2^31, positions below 2^15, and sums are numbers of 64 bits. Each row group has a chunk.
-use Rattle.std.specs.Prelude.{◌≡◌, ℕ, ◌+◌, ◌<◌, ◌≤◌, FitsSigned, List, length, Option, Some, None}
+use Rattle.std.specs.Prelude.{ℕ, ◌+◌, ◌<◌, ◌≤◌, FitsSigned, List, length, Option, Some, None}
 use Rattle.std.specs.Int.{w64}
 use Rattle.std.specs.List.{All}
 use Rattle.thrift_compact.specs.Proper.{IsSmall}

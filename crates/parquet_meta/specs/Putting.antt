@@ -1,9 +1,9 @@
 -- What is written field by field and item by item, in the words of the tree.
-use Rattle.std.specs.Prelude.{ℕ, ◌+◌, ◌*◌, ◌<◌, ℤ, pos, ◌+ℤ◌, ◌<ℤ◌, ◌≤ℤ◌, List, [], ◌∷◌, length}
+use Rattle.std.specs.Prelude.{ℕ, ◌+◌, ◌*◌, ◌<◌, ℤ, pos, ◌+ℤ◌, ◌<ℤ◌, ◌≤ℤ◌, length}
 use Rattle.thrift_compact.specs.declared.writer.Part.{Part}
 use Rattle.thrift_compact.specs.Spelling.{spelling}
-use Rattle.thrift_compact.specs.Tree.{Tree, struct, Trees, no_trees, tree, Fields, no_fields, field, kind_of_tree}
-use Rattle.thrift_compact.specs.Writing.{Draft, with_field, with_item, Follows}
+use Rattle.thrift_compact.specs.Tree.{Tree, Fields, no_fields, field, kind_of_tree}
+use Rattle.thrift_compact.specs.Writing.{Draft, with_field, Follows}
 
 -- a field and its value, in the struct that is open
 abbrev pub with_value : ℤ → Tree → Draft → Draft

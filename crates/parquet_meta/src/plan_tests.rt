@@ -1,4 +1,9 @@
 // Structs against bytes that were worked out by hand, and the footer of a signed file that another program laid.
+ghost use Rattle.std.specs.Prelude.{◌≡◌, ◌<◌, ◌≤◌, ◌+◌, pos, [], length, IfOk};
+ghost use Rattle.std.specs.List.{All};
+ghost use Rattle.thrift_compact.specs.Proper.{IsSmall};
+ghost use Rattle.parquet_meta.specs.Fitting.{AreFew, FitsKind, FitsAlgorithm, FitsColumn, FitsChunk, FitsGroup, FitsFooter};
+
 use crate::column::{ColumnKind, ColumnSpec, FlatSchema};
 use crate::file_meta::{AlgorithmMeta, ChunkCrypto};
 use crate::page_head::DataHead;
@@ -17,7 +22,10 @@ fn spec(
     kind: ColumnKind,
     optional: bool,
     text: bool,
-) -> Result<ColumnSpec, OutOfMemory> {
+) -> Result<ColumnSpec, OutOfMemory>
+    requires { IsSmall (length name.now) × FitsKind kind }
+    ensures { IfOk result (λ column. FitsColumn column) }
+{
     let name = Bytes::copy_of(alloc, name)?;
     Ok(ColumnSpec {
         name,
@@ -27,15 +35,21 @@ fn spec(
     })
 }
 
-fn id_spec(alloc: Global) -> Result<ColumnSpec, OutOfMemory> {
+fn id_spec(alloc: Global) -> Result<ColumnSpec, OutOfMemory>
+    ensures { IfOk result (λ column. FitsColumn column) }
+{
     spec(alloc, b"id", ColumnKind::Int64, false, false)
 }
 
-fn name_spec(alloc: Global) -> Result<ColumnSpec, OutOfMemory> {
+fn name_spec(alloc: Global) -> Result<ColumnSpec, OutOfMemory>
+    ensures { IfOk result (λ column. FitsColumn column) }
+{
     spec(alloc, b"name", ColumnKind::ByteArray, true, true)
 }
 
-fn secret_spec(alloc: Global) -> Result<ColumnSpec, OutOfMemory> {
+fn secret_spec(alloc: Global) -> Result<ColumnSpec, OutOfMemory>
+    ensures { IfOk result (λ column. FitsColumn column) }
+{
     spec(alloc, b"secret", ColumnKind::ByteArray, false, false)
 }
 
@@ -43,7 +57,10 @@ fn algorithm(
     alloc: Global,
     prefix: Option<Bytes>,
     unique: &[u8],
-) -> Result<AlgorithmMeta, OutOfMemory> {
+) -> Result<AlgorithmMeta, OutOfMemory>
+    requires { AreFew prefix × IsSmall (length unique.now) }
+    ensures { IfOk result (λ algorithm. FitsAlgorithm algorithm) }
+{
     let unique = Bytes::copy_of(alloc, unique)?;
     Ok(AlgorithmMeta {
         ctr: false,
@@ -53,7 +70,9 @@ fn algorithm(
     })
 }
 
-fn id_chunk(alloc: Global) -> Result<WrittenChunk, OutOfMemory> {
+fn id_chunk(alloc: Global) -> Result<WrittenChunk, OutOfMemory>
+    ensures { IfOk result (λ chunk. FitsChunk chunk × (chunk.uncompressed ≡ pos 49) × (chunk.stored ≡ pos 49)) }
+{
     let spec = id_spec(alloc)?;
     Ok(WrittenChunk {
         spec,
@@ -67,7 +86,9 @@ fn id_chunk(alloc: Global) -> Result<WrittenChunk, OutOfMemory> {
     })
 }
 
-fn name_chunk(alloc: Global) -> Result<WrittenChunk, OutOfMemory> {
+fn name_chunk(alloc: Global) -> Result<WrittenChunk, OutOfMemory>
+    ensures { IfOk result (λ chunk. FitsChunk chunk × (chunk.uncompressed ≡ pos 41) × (chunk.stored ≡ pos 105)) }
+{
     let spec = name_spec(alloc)?;
     let sealed =
         b"5\x00\x00\x00\xc0\x1eR\xdd\xb7\x87[K\xd4s^:\xf8\xad\xd7\x14#\x00\x01H\x18\xcakZ\x8e\xec\x95+\x96D\x82\xaa\xa9\xde\xab\x0a_\xd382\x9b;\x82\xe9\xb0o\x12Wm\xcc\xafR\xdd";
@@ -84,7 +105,9 @@ fn name_chunk(alloc: Global) -> Result<WrittenChunk, OutOfMemory> {
     })
 }
 
-fn secret_chunk(alloc: Global) -> Result<WrittenChunk, OutOfMemory> {
+fn secret_chunk(alloc: Global) -> Result<WrittenChunk, OutOfMemory>
+    ensures { IfOk result (λ chunk. FitsChunk chunk × (chunk.uncompressed ≡ pos 37) × (chunk.stored ≡ pos 101)) }
+{
     let spec = secret_spec(alloc)?;
     let sealed =
         b"8\x00\x00\x00&^\x16\xee\xe0?Yq\x8b\x9b]\x03\x05\x83)\x0e\xacV9&\xfd\x01\xdd`\xf8\x97th(\xed\x8e\xe5W\x22\xd5s\xdc7\xe7\xa0}\x12\xfb\xe9\xac\xdf\xbc\xd3Q\xa4\x7fl\xf71\x1aG";
@@ -102,7 +125,10 @@ fn secret_chunk(alloc: Global) -> Result<WrittenChunk, OutOfMemory> {
     })
 }
 
-fn schema(alloc: Global) -> Result<FlatSchema, OutOfMemory> {
+#[tactic(auto, using(crate::proofs::PlanTests::pushed))]
+fn schema(alloc: Global) -> Result<FlatSchema, OutOfMemory>
+    ensures { IfOk result (λ columns. (length columns ≡ 3) × All FitsColumn columns) }
+{
     let mut schema = FlatSchema::new(alloc);
     schema.push(id_spec(alloc)?)?;
     schema.push(name_spec(alloc)?)?;
@@ -110,7 +136,10 @@ fn schema(alloc: Global) -> Result<FlatSchema, OutOfMemory> {
     Ok(schema)
 }
 
-fn groups(alloc: Global) -> Result<WrittenGroups, OutOfMemory> {
+#[tactic(auto, using(crate::proofs::PlanTests::pushed))]
+fn groups(alloc: Global) -> Result<WrittenGroups, OutOfMemory>
+    ensures { IfOk result (λ groups. (length groups ≡ 1) × All FitsGroup groups) }
+{
     let mut chunks = WrittenChunks::new(alloc);
     chunks.push(id_chunk(alloc)?)?;
     chunks.push(name_chunk(alloc)?)?;
@@ -124,7 +153,9 @@ fn groups(alloc: Global) -> Result<WrittenGroups, OutOfMemory> {
 }
 
 /// A file of four rows whose footer is signed.
-fn signed_plan(alloc: Global) -> Result<FooterPlan, OutOfMemory> {
+fn signed_plan(alloc: Global) -> Result<FooterPlan, OutOfMemory>
+    ensures { IfOk result (λ plan. FitsFooter plan) }
+{
     let schema = schema(alloc)?;
     let groups = groups(alloc)?;
     let prefix = Bytes::copy_of(alloc, b"table")?;
@@ -140,7 +171,10 @@ fn signed_plan(alloc: Global) -> Result<FooterPlan, OutOfMemory> {
 }
 
 /// A file of no rows whose one column has values of 5 bytes.
-fn empty_plan(alloc: Global) -> Result<FooterPlan, OutOfMemory> {
+#[tactic(auto, using(crate::proofs::PlanTests::pushed))]
+fn empty_plan(alloc: Global) -> Result<FooterPlan, OutOfMemory>
+    ensures { IfOk result (λ plan. FitsFooter plan) }
+{
     let mut schema = FlatSchema::new(alloc);
     schema.push(spec(alloc, b"f", ColumnKind::Fixed(5), false, false)?)?;
     Ok(FooterPlan {

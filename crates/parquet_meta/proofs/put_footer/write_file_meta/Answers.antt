@@ -1,4 +1,4 @@
-use Rattle.std.proofs.Common.{◌≡◌, ◌∙◌, ap, sym}
+use Rattle.std.proofs.Common.{◌∙◌, ap, sym}
 use Rattle.thrift_compact.specs.Tree.{struct}
 use Rattle.parquet_meta.specs.Plans.{file_meta_data}
 use Rattle.parquet_meta.proofs.Laid.{laid_canonical}

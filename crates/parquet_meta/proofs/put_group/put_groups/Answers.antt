@@ -1,4 +1,4 @@
-use Rattle.std.proofs.Common.{◌≡◌, ◌∙◌, ap, sym, subst, pos, length, arith}
+use Rattle.std.proofs.Common.{◌∙◌, ap, sym, subst, pos, length, arith}
 use Rattle.std.specs.List.{All}
 use Rattle.std.proofs.lemmas.List.Elements.{All-get_or}
 use Rattle.thrift_compact.specs.Tree.{list}

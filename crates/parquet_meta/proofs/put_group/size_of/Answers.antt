@@ -1,4 +1,4 @@
-use Rattle.std.proofs.Common.{◌≡◌, ◌≤◌, ◌∙◌, ap, sym, subst, length, FitsSigned, w64, arith}
+use Rattle.std.proofs.Common.{◌≤◌, ◌∙◌, ap, sym, subst, length, FitsSigned, w64, arith}
 use Rattle.parquet_meta.specs.Plans.{total_uncompressed, total_stored}
 use Rattle.parquet_meta.proofs.PutSums.{total_before, total_next, total_over, within_nothing, within_more}
 use Rattle.parquet_meta.proofs.put_group.size_of.Goals as goal
