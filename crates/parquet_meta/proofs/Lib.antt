@@ -6,3 +6,12 @@ pub mod Trees
 pub mod Lists
 pub mod Rows
 pub mod Chunks
+pub mod PutFields
+pub mod PutLists
+pub mod PutSums
+pub mod Laid
+pub mod PlansLaid
+pub mod LaidSpelled
+pub mod PlansRead
+pub mod ReadBackProved
+pub mod PlanTests

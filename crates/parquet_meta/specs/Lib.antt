@@ -6,3 +6,7 @@ pub mod Meets
 pub mod Met
 pub mod Causes
 pub mod Answered
+pub mod Plans
+pub mod Putting
+pub mod Fitting
+pub mod ReadBack

@@ -25,6 +25,17 @@ mod parts;
 mod signing;
 mod value_rules;
 mod values;
+mod plan;
+#[cfg(test)]
+mod plan_tests;
+mod put_algorithm;
+mod put_column;
+mod put_fields;
+mod put_footer;
+mod put_group;
+mod put_page_head;
+mod put_schema;
+mod writing_laws;
 
 pub use chunk::read_column_meta;
 pub use column::{ColumnKind, ColumnSpec, FlatSchema};
@@ -37,3 +48,9 @@ pub use footer::read_file_meta;
 pub use page::read_page_head;
 pub use page_head::{DataHead, DictionaryHead, PageHead};
 pub use signing::read_signing;
+pub use plan::{FooterPlan, WrittenChunk, WrittenChunks, WrittenGroup, WrittenGroups};
+pub use put_algorithm::write_file_crypto;
+pub use put_column::write_column_meta;
+pub use put_footer::write_file_meta;
+pub use put_page_head::write_page_head;
+pub use writing_laws::what_is_written_is_read;
