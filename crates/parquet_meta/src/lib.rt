@@ -22,9 +22,6 @@ mod page;
 mod page_head;
 mod page_parts;
 mod parts;
-mod signing;
-mod value_rules;
-mod values;
 mod plan;
 #[cfg(test)]
 mod plan_tests;
@@ -35,6 +32,9 @@ mod put_footer;
 mod put_group;
 mod put_page_head;
 mod put_schema;
+mod signing;
+mod value_rules;
+mod values;
 mod writing_laws;
 
 pub use chunk::read_column_meta;
@@ -47,10 +47,10 @@ pub use file_meta::{
 pub use footer::read_file_meta;
 pub use page::read_page_head;
 pub use page_head::{DataHead, DictionaryHead, PageHead};
-pub use signing::read_signing;
 pub use plan::{FooterPlan, WrittenChunk, WrittenChunks, WrittenGroup, WrittenGroups};
 pub use put_algorithm::write_file_crypto;
 pub use put_column::write_column_meta;
 pub use put_footer::write_file_meta;
 pub use put_page_head::write_page_head;
+pub use signing::read_signing;
 pub use writing_laws::what_is_written_is_read;
