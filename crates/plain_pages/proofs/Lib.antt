@@ -1,6 +1,0 @@
-pub mod Kept
-pub mod PageBack
-pub mod PageLemmas
-pub mod PlaceLists
-pub mod RowsKept
-pub mod TableLemmas

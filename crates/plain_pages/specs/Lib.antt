@@ -1,6 +1,0 @@
-pub mod Cells
-pub mod Columns
-pub mod Pages
-pub mod PlacesInside
-pub mod Plain
-pub mod RanksInside
