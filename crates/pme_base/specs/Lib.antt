@@ -3,4 +3,4 @@ pub mod Outside
 pub mod Places
 pub mod Refusals
 pub mod Steps
-pub use Rattle.pme_terms.specs.Counts
+pub mod Counts

@@ -6,7 +6,7 @@ use Rattle.std.specs.Ordering.{nat_cmp}
 use Rattle.std.specs.FinMap.{FinMap, get, insert}
 use Rattle.pme_base.specs.declared.outside.Trouble.{Trouble}
 use Rattle.pme_base.specs.declared.outside.Trouble.TheVariants.{Failed}
-use Rattle.pme_terms.specs.Counts.{Rose}
+use Rattle.pme_base.specs.Counts.{Rose}
 
 -- the published files: a finite map from names to bytes
 abbrev pub Published : Type 0

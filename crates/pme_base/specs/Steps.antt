@@ -3,7 +3,7 @@ use Rattle.std.specs.Prelude.{◌≡◌, ℕ, ◌≤◌, Bool, false, Result, Ok
 use Rattle.pme_base.specs.declared.refusal.Cause.TheVariants as cause_of
 use Rattle.pme_base.specs.declared.refusal.Refusal.{Refusal}
 use Rattle.pme_base.specs.Refusals.{is_free, is_fault}
-use Rattle.pme_terms.specs.Counts.{Rose}
+use Rattle.pme_base.specs.Counts.{Rose}
 
 -- whether a result is a refusal that may come at any step
 abbrev pub is_free_result : {T : Type 0} → Result T Refusal → Bool

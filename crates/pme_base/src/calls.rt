@@ -1,6 +1,6 @@
 ghost use Rattle.std.specs.Prelude.{◌≡◌, ◌≤◌, [], ◌∷◌, ◌++◌, true, is_err, OnOk, OnErr};
 ghost use Rattle.pme_base.specs.Memory.{no_calls, is_failing, called, one_more};
-ghost use Rattle.pme_terms.specs.Counts.{Rose};
+ghost use Rattle.pme_base.specs.Counts.{Rose};
 
 use crate::memory_error::OutOfMemory;
 use crate::outside::Failed;

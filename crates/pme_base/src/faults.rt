@@ -1,6 +1,6 @@
 ghost use Rattle.std.specs.Prelude.{◌≡◌, ◌≤◌, OnErr};
 ghost use Rattle.std.specs.Result.{result_ok};
-ghost use Rattle.pme_terms.specs.Counts.{Rose};
+ghost use Rattle.pme_base.specs.Counts.{Rose};
 
 use crate::outside::Failed;
 use std::io;

@@ -9,6 +9,7 @@ mod mem_files;
 mod mem_random;
 mod mem_sink;
 mod memory_error;
+mod name_set;
 mod outside;
 mod place;
 mod reading;
@@ -28,13 +29,14 @@ pub use mem_files::MemFiles;
 pub use mem_random::MemRandom;
 pub use mem_sink::MemSink;
 pub use memory_error::OutOfMemory;
+pub use name_set::NameSet;
 pub use outside::{Failed, Files, Random, Sink, Trouble};
 pub use place::{OrdinalTooLarge, Place, PlaceKind};
 pub use reading::read_full;
 pub use refusal::{
     Cause, Detail, ItemWord, PagePart, Refusal, StructName, ThriftFault, plain_refusal, refusal_at,
 };
-pub use rows::Rows;
+pub use rows::{Rest, Rows};
 pub use std_files::StdFiles;
 pub use std_random::StdRandom;
 pub use std_sink::StdSink;

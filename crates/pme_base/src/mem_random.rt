@@ -1,7 +1,7 @@
 ghost use Rattle.std.specs.Prelude.{◌≡◌, ◌<◌, ◌≤◌, ◌↔◌, ◌⊎◌, ◌∷◌, ◌++◌, [], true, length, drop, Some, option_map, is_err, OnOk, OnErr, IfSome, IsErr};
 ghost use Rattle.pme_base.specs.Outside.{IsDrawn};
 ghost use Rattle.pme_base.specs.Memory.{mem_to_come, no_calls, is_failing, called};
-ghost use Rattle.pme_terms.specs.Counts.{Rose};
+ghost use Rattle.pme_base.specs.Counts.{Rose};
 
 use crate::bytes::Bytes;
 use crate::calls::Calls;

@@ -1,7 +1,7 @@
 ghost use Rattle.std.specs.Prelude.{◌≡◌, ℕ, ◌≤◌, List, length, drop, Option, option_map, OnOk, OnErr, IfOk, IfSome};
 ghost use Rattle.std.specs.FinMap.{get};
 ghost use Rattle.pme_base.specs.Outside.{Published, bytes_of, nothing_pending, followed_by, with_file, given_after, IsReadAt, IsDrawn, PutsFront, HasCause};
-ghost use Rattle.pme_terms.specs.Counts.{Rose};
+ghost use Rattle.pme_base.specs.Counts.{Rose};
 
 use crate::memory_error::OutOfMemory;
 use std::alloc::{AllocError, AllocFailed};

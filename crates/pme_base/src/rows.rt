@@ -1,9 +1,10 @@
-ghost use Rattle.std.specs.Prelude.{◌≡◌, [], ◌∷◌, ◌++◌, ◌==◌, length, slice_get, OnOk, OnErr};
+ghost use Rattle.std.specs.Prelude.{◌≡◌, [], ◌∷◌, ◌++◌, ◌==◌, length, slice_get, OnOk, OnErr, MatchOption};
 ghost use Rattle.std.specs.Option.{option_copied};
 
 use crate::memory_error::OutOfMemory;
 use std::alloc::Global;
 use std::marker::Model;
+use std::vec::IntoIter;
 
 /// A list of values that owns its memory. A contract sees it as the list of its items.
 /// Every list type of the crates above is this one under a name of its own.
@@ -67,5 +68,38 @@ impl<T: Drop> Rows<T> {
         ensures { result.now ≡ self.now }
     {
         self.items.as_slice()
+    }
+
+    /// The items, to be taken out from the front.
+    pub fn into_rest(self) -> Rest<T>
+        ensures { result ≡ self }
+    {
+        Rest {
+            items: self.items.into_iter(),
+        }
+    }
+}
+
+/// The items of a list that were not taken out yet. A contract sees it as the list of these items.
+#[derive(Drop)]
+pub struct Rest<T> {
+    items: IntoIter<T>,
+}
+
+impl<T> Model for Rest<T> {
+    ghost use Rattle.std.specs.Prelude.{List};
+    ghost use Rattle.std.specs.Vec.Iter.{into_iter_items};
+
+    ghost Value = { List T };
+
+    ghost view = { λ r. into_iter_items r.items };
+}
+
+impl<T: Drop> Rest<T> {
+    /// Takes out the first item; None exactly where no item is left.
+    pub fn next(&mut self) -> Option<T>
+        ensures { MatchOption result (self.old ≡ []) (λ first. self.old ≡ first ∷ self.new) }
+    {
+        self.items.next()
     }
 }

@@ -1,8 +1,8 @@
 ghost use Rattle.std.specs.Prelude.{None};
 
 use crate::{
-    Bytes, Failed, Files, MemFiles, MemRandom, MemSink, Place, PlaceKind, Random, Sink, StdFiles,
-    StdRandom, StdSink, Text, Trouble, Words, read_full,
+    Bytes, Failed, Files, MemFiles, MemRandom, MemSink, NameSet, Place, PlaceKind, Random, Rows,
+    Sink, StdFiles, StdRandom, StdSink, Text, Trouble, Words, read_full,
 };
 use std::fs;
 use std::test::Fail;
@@ -21,6 +21,21 @@ fn lists_of_bytes_and_words_hold_what_was_added(rt: HostRuntime) -> Result<(), F
     assert_eq!(rt; words.get(2), None);
     let text = Text::copy_of(rt.alloc(), "--key")?;
     assert!(rt; words.as_slice().get(1) == Some(&text));
+    Ok(())
+}
+
+#[test]
+fn a_set_of_names_tells_new_ones_and_a_list_is_taken_apart(rt: HostRuntime) -> Result<(), Fail> {
+    let mut names = NameSet::new(rt.alloc());
+    let mut list = Rows::new(rt.alloc());
+    for name in ["id", "name", "id", ""] {
+        list.push(names.add(name.as_bytes())?)?;
+    }
+    let mut rest = list.into_rest();
+    for new in [true, true, false, true] {
+        assert_eq!(rt; rest.next(), Some(new));
+    }
+    assert_eq!(rt; rest.next(), None);
     Ok(())
 }
 

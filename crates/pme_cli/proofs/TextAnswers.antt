@@ -7,7 +7,7 @@ use Rattle.pme_base.specs.declared.refusal.Refusal.{Refusal}
 use Rattle.pme_base.specs.Outside.{Published, followed_by, PutsFront}
 use Rattle.pme_base.specs.Refusals.{is_free}
 use Rattle.pme_base.specs.Steps.{Answers}
-use Rattle.pme_terms.specs.Counts.{Rose}
+use Rattle.pme_base.specs.Counts.{Rose}
 use Rattle.pme_cli.specs.declared.stop.Stop.{Stop}
 use Rattle.pme_cli.specs.Stops.{stop_of}
 use Rattle.pme_cli.specs.Outcomes.{StopsReading, StopsWriting}

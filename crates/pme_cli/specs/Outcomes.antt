@@ -2,7 +2,7 @@
 use Rattle.std.specs.Prelude.{◌≡◌, ℕ, ◌≤◌, List, [], Option, Some, None, Result, Ok, Err, IfErr}
 use Rattle.pme_base.specs.declared.refusal.Cause.TheVariants as cause_of
 use Rattle.pme_base.specs.declared.refusal.Refusal.{Refusal}
-use Rattle.pme_terms.specs.Counts.{Rose}
+use Rattle.pme_base.specs.Counts.{Rose}
 use Rattle.refusal_lines.specs.CauseRows.{status_number}
 use Rattle.refusal_lines.specs.RefusalText.{refusal_line}
 use Rattle.pme_cli.specs.declared.stop.Stop.{Stop}

@@ -4,7 +4,7 @@ ghost use Rattle.pme_base.specs.declared.refusal.Cause.TheVariants as cause_of;
 ghost use Rattle.pme_base.specs.declared.outside.Trouble.TheVariants as trouble;
 ghost use Rattle.refusal_lines.specs.RefusalText as text;
 ghost use Rattle.pme_base.specs.Outside.{PutsFront, followed_by};
-ghost use Rattle.pme_terms.specs.Counts.{Rose};
+ghost use Rattle.pme_base.specs.Counts.{Rose};
 ghost use Rattle.pme_cli.specs.Outcomes.{outcome_of, number_of, last_line, StopsReading, StopsWriting};
 ghost use Rattle.std.specs.FinMap.{get};
 ghost use Rattle.pme_cli.specs.SealedFile.{sealed_bytes};

@@ -1,2 +1,1 @@
 pub mod Polynomials
-pub mod Counts

@@ -1,3 +1,3 @@
-// Words of definitions that several crates cite: polynomials over bits, and what "a count rose" means.
-// There is no code here. `specs/` has the definitions, and `proofs/` the laws of polynomials over bits.
+// Words of definitions that AES and GCM both cite: polynomials over bits.
+// There is no code here. `specs/` has the definitions, and `proofs/` their laws.
 #![tactic(auto)]

@@ -2,7 +2,7 @@ ghost use Rattle.std.specs.Prelude.{◌≡◌, ◌≤◌, ◌+◌, ◌⊎◌, le
 ghost use Rattle.std.specs.FinMap.{get};
 ghost use Rattle.pme_base.specs.Steps.{Answers, ReadsFail};
 ghost use Rattle.pme_cli.specs.Outcomes.{StopsReading, StopsWriting};
-ghost use Rattle.pme_terms.specs.Counts.{Rose};
+ghost use Rattle.pme_base.specs.Counts.{Rose};
 ghost use Rattle.crypto_module.specs.Modules.{IsGcm};
 ghost use Rattle.crypto_module.specs.Frames as frames;
 ghost use Rattle.pme_cli.specs.SealedFile.{plaintext_limit, opened_buffer, opened_file, sealed_bytes};

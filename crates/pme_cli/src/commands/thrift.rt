@@ -1,7 +1,7 @@
 ghost use Rattle.std.specs.Prelude.{◌≡◌, ◌≤◌, ◌+◌, ◌⊎◌, true, IfSome, IfOk, IfErr};
 ghost use Rattle.std.specs.FinMap.{get};
 ghost use Rattle.pme_base.specs.Steps.{Answers, ReadsFail, Quiet};
-ghost use Rattle.pme_terms.specs.Counts.{Rose};
+ghost use Rattle.pme_base.specs.Counts.{Rose};
 ghost use Rattle.thrift_compact.specs.View.{view};
 ghost use Rattle.pme_cli.specs.Outcomes.{StopsReading, StopsWriting};
 ghost use Rattle.pme_cli.specs.SmallFile.{small_bytes};

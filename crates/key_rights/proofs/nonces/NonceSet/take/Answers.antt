@@ -1,5 +1,5 @@
 use Rattle.std.proofs.Common.{◌≡◌, Bool, true, false, not, refl, ◌∙◌}
-use Rattle.key_rights.proofs.Trees.{contains_of, insert_of}
+use Rattle.pme_base.proofs.Trees.{contains_of, insert_of}
 use Rattle.key_rights.proofs.nonces.NonceSet.take.Goals as goal
 
 was_there : (added there : Bool) → added ≡ not there → added ≡ false → there ≡ true
