@@ -5,7 +5,6 @@ use pme_base::{Bytes, MemFiles, MemRandom, MemSink, OutOfMemory, Trouble, Words}
 use std::alloc::Global;
 use std::process::Abort;
 use std::test::Fail;
-use thrift_compact::{read_tree, spell};
 
 /// Words (`''` is an empty one), the bytes of `m.bin` and `t.bin` in hex, the number, and the lines that are printed:
 /// to `out` where the number is 0, else to `err`.
@@ -59,27 +58,6 @@ const SEALED_ZEROS: &str =
 const LINE: &str = "module --key 00000000000000000000000000000000 --aad '' --file m.bin";
 
 const THRIFT_LINE: &str = "thrift --file t.bin";
-
-/// Structs of every kind in hex, and how each is spelled again: a canonical one as it was.
-const SPELLED: &str = "\
-111200|111200
-130513ff00|130513ff00
-140300|140300
-150200|150200
-16ffffffffffffffffff0100|16ffffffffffffffffff0100
-17000000000000f03f00|17000000000000f03f00
-18026b6600|18026b6600
-193502040600|193502040600
-190c00|190c00
-190300|190c00
-19f30f00010203040506070809101112131400|19f30f00010203040506070809101112131400
-1a21010200|1a21010200
-1b015802016100|1b015802016100
-1b0000|1b0000
-1c15020000|1c15020000
-05280200|05280200
-15820000|150200
-250405020200|1502150400";
 
 /// What a run answered and wrote.
 #[derive(Drop)]
@@ -248,33 +226,6 @@ fn reads_the_length_field_and_then_the_rest(rt: HostRuntime) -> Result<(), Fail>
     let ran = ran(alloc, &words, given(alloc, SEALED_ZEROS)?)?;
     assert_eq!(rt; ran.number, 0);
     assert_eq!(rt; ran.largest_read, 44);
-    Ok(())
-}
-
-fn spelled_again(alloc: Global, bytes: &[u8]) -> Result<Bytes, Fail> {
-    let Ok((tree, _length)) = read_tree(alloc, bytes) else {
-        return Err(Fail::from("no struct"));
-    };
-    let mut again = Bytes::new(alloc);
-    spell(&tree, &mut again)?;
-    Ok(again)
-}
-
-fn check_spelling<R: Abort + AllocGlobal>(rt: &R, case: &str) -> Result<(), Fail> {
-    let alloc = rt.alloc();
-    let (given, wanted) = case.split_once('|').ok_or("two texts")?;
-    let bytes = hex::decode(alloc, given)?;
-    let again = spelled_again(alloc, bytes.as_slice())?;
-    let text = hex::encode(alloc, again.as_slice())?;
-    assert_eq!(rt; text.as_str(), wanted);
-    Ok(())
-}
-
-#[test]
-fn spells_again_what_was_read(rt: HostRuntime) -> Result<(), Fail> {
-    for case in SPELLED.lines() {
-        check_spelling(&rt, case)?;
-    }
     Ok(())
 }
 

@@ -15,18 +15,10 @@ mod read;
 mod reader;
 mod refusal;
 mod show;
-#[cfg(test)]
-mod show_tests;
 mod skip;
 mod spelling_laws;
-#[cfg(test)]
-mod spelling_tests;
-#[cfg(test)]
-mod tests;
 mod tree;
 mod writer;
-#[cfg(test)]
-mod writer_tests;
 mod writing_laws;
 
 pub use canonical::spell;

@@ -1,0 +1,18 @@
+// Tests that cross the crates of a file's metadata: the compact protocol, the structs of `parquet.thrift`, the rules on a
+// footer, and what is written. They stand here so that none of those crates is proved again for its tests.
+#![tactic(auto)]
+
+#[cfg(test)]
+mod footer_rules_kept;
+#[cfg(test)]
+mod reading;
+#[cfg(test)]
+mod spellings;
+#[cfg(test)]
+mod structs_read;
+#[cfg(test)]
+mod texts;
+#[cfg(test)]
+mod written_metadata;
+#[cfg(test)]
+mod written_structs;

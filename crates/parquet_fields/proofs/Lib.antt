@@ -1,0 +1,4 @@
+pub mod Loops
+pub mod ItemLoops
+pub mod OtherKinds
+pub mod Pages

@@ -1,0 +1,4 @@
+pub mod LaidSpelled
+pub mod PlansKeep
+pub mod PlansRead
+pub mod ReadBackProved

@@ -1,0 +1,17 @@
+// What a Parquet file's metadata holds: the structs of `parquet.thrift` that a reader of columns looks at, as types,
+// read from their bytes with the first refusal by a fixed order, and written in canonical spelling. The types, the
+// fields, the rules and the writing stand in crates of their own; here they are joined, and what is written is read.
+#![tactic(auto)]
+
+mod footer;
+mod writing_laws;
+
+pub use footer::read_file_meta;
+pub use parquet_fields::{read_column_meta, read_file_crypto, read_page_head, read_signing};
+pub use parquet_types::{
+    AlgorithmMeta, ChunkCrypto, ChunkList, ChunkMeta, ColumnKind, ColumnMeta, ColumnSpec, DataHead,
+    DictionaryHead, FileCrypto, FileMeta, FlatSchema, FooterPlan, GroupList, PageHead, PathList,
+    RowGroupMeta, WrittenChunk, WrittenChunks, WrittenGroup, WrittenGroups,
+};
+pub use parquet_writing::{write_column_meta, write_file_crypto, write_file_meta, write_page_head};
+pub use writing_laws::{what_is_planned_is_read, what_is_written_is_read};

@@ -1,0 +1,51 @@
+// A footer as its fields are read, before the rules on their values.
+use crate::file_meta::{AlgorithmMeta, ColumnMeta, PathList};
+use pme_base::{Bytes, Rows};
+
+/// An element of a schema.
+#[derive(Debug, Drop)]
+pub struct SchemaElement {
+    pub kind: Option<i32>,
+    pub type_length: Option<i32>,
+    pub repetition: Option<i32>,
+    pub name: Bytes,
+    pub num_children: Option<i32>,
+    pub converted: Option<i32>,
+}
+
+/// The union ColumnCryptoMetaData.
+#[derive(Debug, Drop)]
+pub enum ColumnCrypto {
+    FooterKey,
+    ColumnKey {
+        path: PathList,
+        key_metadata: Option<Bytes>,
+    },
+}
+
+/// A column chunk.
+#[derive(Debug, Drop)]
+pub struct ColumnChunk {
+    pub file_path: Option<Bytes>,
+    pub plain_meta: Option<ColumnMeta>,
+    pub crypto: Option<ColumnCrypto>,
+    pub sealed_meta: Option<Bytes>,
+}
+
+/// A row group.
+#[derive(Debug, Drop)]
+pub struct RowGroup {
+    pub chunks: Rows<ColumnChunk>,
+    pub num_rows: i64,
+    pub ordinal: Option<i16>,
+}
+
+/// A file's footer.
+#[derive(Debug, Drop)]
+pub struct FileFields {
+    pub schema: Rows<SchemaElement>,
+    pub num_rows: i64,
+    pub groups: Rows<RowGroup>,
+    pub algorithm: Option<AlgorithmMeta>,
+    pub signing_key_metadata: Option<Bytes>,
+}
