@@ -1,4 +1,5 @@
 pub mod LaidSpelled
 pub mod PlansKeep
+pub mod PlansPassed
 pub mod PlansRead
 pub mod ReadBackProved

@@ -1,4 +1,4 @@
--- A plan that keeps the rules of a footer, the footer that is read of it, and the law that it is.
+-- A plan that keeps the rules of a footer, the footer that is read of it, and the laws that it is, and that no other is.
 use Rattle.std.specs.Prelude.{◌≡◌, ℕ, ◌+◌, ◌<◌, ◌≤◌, ℤ, pos, ◌+ℤ◌, ◌≤ℤ◌, Bool, true, false, List, [], ◌∷◌, ◌++◌, length, map, Some, Ok}
 use Rattle.std.specs.FinSet.{contains, empty, insert}
 use Rattle.std.specs.Str.{is_utf8}
@@ -83,3 +83,18 @@ abbrev pub FilePlanIsRead : Type 0
 FilePlanIsRead =
     (place : Place) (plan : FooterPlan) (rest : List ℕ) → FitsFooter plan → IsFilePlan plan → NumbersFit (struct (file_meta_data plan))
     → file_meta_at place (written (file_meta_data plan) ++ rest) ≡ Ok (planned plan, length (written (file_meta_data plan)))
+
+-- texts are byte arrays
+abbrev pub IsTextOf : ColumnKind → Bool → Type 0
+IsTextOf kind.ByteArray text = Unit {0}
+IsTextOf k text = text ≡ false
+
+abbrev pub AreTyped : List ColumnSpec → Type 0
+AreTyped [] = Unit {0}
+AreTyped (column ∷ columns) = IsTextOf column.kind column.text × AreTyped columns
+
+-- whatever the plan: where its footer passes the rules, it is read as the plan
+abbrev pub PassedPlanIsRead : Type 0
+PassedPlanIsRead =
+    (place : Place) (plan : FooterPlan) (rest : List ℕ) (read : FileMeta × ℕ) → FitsFooter plan → AreTyped plan.schema → NumbersFit (struct (file_meta_data plan))
+    → file_meta_at place (written (file_meta_data plan) ++ rest) ≡ Ok read → read ≡ (planned plan, length (written (file_meta_data plan)))

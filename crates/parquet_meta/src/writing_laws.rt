@@ -1,4 +1,4 @@
-ghost use Rattle.parquet_meta.specs.PlanRules.{FilePlanIsRead};
+ghost use Rattle.parquet_meta.specs.PlanRules.{FilePlanIsRead, PassedPlanIsRead};
 ghost use Rattle.parquet_meta.specs.ReadBack.{PageHeadIsRead, FileCryptoIsRead, ColumnMetaIsRead, FileFieldsAreRead, FileMetaIsRead, SigningIsRead};
 
 /// The law that what was written is read again as the values that were written, whatever follows it: the header of a
@@ -14,7 +14,9 @@ pub fn what_is_written_is_read()
 {}
 
 /// The law that the footer of a plan that keeps the rules is read, and as what was planned: its columns, its row groups in
-/// their positions with the keys and the metadata of their chunks, its rows, and how it is signed.
+/// their positions with the keys and the metadata of their chunks, its rows, and how it is signed. And the law that the
+/// footer of any plan, where it is read at all, is read as what was planned.
 pub fn what_is_planned_is_read()
-    ensures { FilePlanIsRead }
+    ensures keeps { FilePlanIsRead }
+    ensures passed { PassedPlanIsRead }
 {}

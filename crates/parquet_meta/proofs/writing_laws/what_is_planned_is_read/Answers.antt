@@ -1,5 +1,9 @@
 use Rattle.parquet_meta.proofs.PlansKeep.{file_plan_read}
+use Rattle.parquet_meta.proofs.PlansPassed.{passed_plan_read}
 use Rattle.parquet_meta.proofs.writing_laws.what_is_planned_is_read.Goals as goal
 
-pub returns : goal.returns
-returns c = file_plan_read
+pub returns-clause-keeps : goal.returns-clause-keeps
+returns-clause-keeps c = file_plan_read
+
+pub returns-clause-passed : goal.returns-clause-passed
+returns-clause-passed c = passed_plan_read

@@ -1,0 +1,56 @@
+-- Places at one distance from each to the next.
+use Rattle.std.proofs.Common.{◌≡◌, ℕ, zero, suc, ◌+◌, ◌-◌, ◌*◌, ◌<◌, ◌≤◌, nat_le, true, false, min, ◌∷◌, map, length, None, Some, refl, ap, ◌∙◌, arith}
+use Rattle.std.specs.List.{slice_get}
+use Rattle.std.specs.Option.{option_map}
+use Rattle.std.proofs.lemmas.List.{length-map}
+use Rattle.std.proofs.lemmas.Option.{slice_get-map, slice_get_past}
+use Rattle.plain_pages.specs.PlacesInside.{even, stepped}
+
+le_true : (m n : ℕ) → m ≤ n → nat_le m n ≡ true
+le_true m n h = grind arith
+
+le_false : (m n : ℕ) → n < m → nat_le m n ≡ false
+le_false m n h = grind arith
+
+pub length-even : (first step n : ℕ) → length (even first step n) ≡ n
+length-even first step zero = refl
+length-even first step (suc n) = ap suc (length-even (first + step) step n)
+
+pub slice_get-even : (first step n k : ℕ) → k < n → slice_get (even first step n) k ≡ Some (first + step * k)
+slice_get-even first step zero k h = absurd (omega arith)
+slice_get-even first step (suc n) zero h = let e : first ≡ first + step * 0 = omega arith in ap Some e
+slice_get-even first step (suc n) (suc k) h =
+    let e : first + step + step * k ≡ first + step * suc k = omega arith in
+    slice_get-even (first + step) step n k (omega arith) ∙ ap Some e
+
+pub slice_get-even_past : (first step n k : ℕ) → n ≤ k → slice_get (even first step n) k ≡ None
+slice_get-even_past first step n k h = slice_get_past (even first step n) k (omega (arith, length-even first step n))
+
+pub slice_get-every : (n k : ℕ) → k < n → slice_get (map Some (even 0 1 n)) k ≡ Some (Some k)
+slice_get-every n k h =
+    let e : 0 + 1 * k ≡ k = omega arith in
+    slice_get-map Some (even 0 1 n) k ∙ ap (option_map Some) (slice_get-even 0 1 n k h ∙ ap Some e)
+
+pub slice_get-every_past : (n k : ℕ) → n ≤ k → slice_get (map Some (even 0 1 n)) k ≡ None
+slice_get-every_past n k h = slice_get-map Some (even 0 1 n) k ∙ ap (option_map Some) (slice_get-even_past 0 1 n k h)
+
+pub length-every : (n : ℕ) → length (map Some (even 0 1 n)) ≡ n
+length-every n = length-map (even 0 1 n) Some ∙ length-even 0 1 n
+
+-- as many places as fit into the room are written out
+pub stepped-even : (n size room place fit : ℕ) → place ≤ room → size * fit ≤ room - place → room - place < size * suc fit
+    → stepped size room n place ≡ even place size (min n fit)
+stepped-even zero size room place fit inside low high = let e : min 0 fit ≡ 0 = omega arith in rw e
+stepped-even (suc n) size room place zero inside low high =
+    let e : min (suc n) 0 ≡ 0 = omega arith in
+    rw (le_false (place + size) room (omega arith), e)
+stepped-even (suc n) size room place (suc fit) inside low high =
+    let e : min (suc n) (suc fit) ≡ suc (min n fit) = omega arith in
+    rw (le_true (place + size) room (omega arith), e)
+    (ap (λ ps. place ∷ ps) (stepped-even n size room (place + size) fit (omega arith) (omega arith) (omega arith)))
+
+pub stepped-same : (n room place : ℕ) → place ≤ room → stepped 0 room n place ≡ even place 0 n
+stepped-same zero room place inside = refl
+stepped-same (suc n) room place inside =
+    let e : place + 0 ≡ place = omega arith in
+    rw (e, le_true place room inside) (ap (λ ps. place ∷ ps) (stepped-same n room place inside))

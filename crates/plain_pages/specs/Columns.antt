@@ -1,0 +1,140 @@
+-- Columns of a table, the bytes that they keep, and the pages that are written of them.
+use Rattle.std.specs.Prelude.{◌≡◌, ℕ, zero, suc, ◌+◌, ◌-◌, ◌≤◌, true, false, if◌then◌else◌, List, [], ◌∷◌, ◌++◌, take, drop, map, length, slice_get, FitsSigned, Option, option_and_then, Ok}
+use Rattle.std.specs.Int.{w32, w64, to_le_bytes, cast_unsigned}
+use Rattle.parquet_types.specs.declared.column.ColumnKind.{ColumnKind}
+use Rattle.parquet_types.specs.declared.column.ColumnKind.TheVariants.{Boolean, Int32, Int64, Int96, Float, Double, ByteArray, Fixed}
+use Rattle.parquet_types.specs.declared.column.ColumnSpec.{ColumnSpec}
+use Rattle.parquet_types.specs.declared.page_head.DataHead.{DataHead}
+use Rattle.pme_base.specs.declared.place.Place.{Place}
+use Rattle.hybrid_runs.specs.Written.{bits_text, run_text}
+use Rattle.plain_pages.specs.Cells.{Cell, null, bool, int32, int64, bytes}
+use Rattle.plain_pages.specs.Plain.{cell_at, value_of}
+use Rattle.plain_pages.specs.Pages.{page, is_coded}
+
+-- a column of a table
+pub record Column : Type 0 where
+  pub spec : ColumnSpec
+  pub cells : List Cell
+
+-- a value of a physical type
+abbrev pub IsValueOf : ColumnKind → Cell → Type 0
+IsValueOf Boolean (bool b) = Unit {0}
+IsValueOf Int32 (int32 n) = FitsSigned w32 n
+IsValueOf Int64 (int64 n) = FitsSigned w64 n
+IsValueOf Int96 (bytes xs) = length xs ≡ 12
+IsValueOf Float (bytes xs) = length xs ≡ 4
+IsValueOf Double (bytes xs) = length xs ≡ 8
+IsValueOf ByteArray (bytes xs) = length xs ≤ 268435456
+IsValueOf (Fixed n) (bytes xs) = length xs ≡ n
+IsValueOf _ _ = ⊥
+
+-- a cell that a column may hold: a value of its physical type, or null where it is optional
+abbrev pub IsCellOf : ColumnSpec → Cell → Type 0
+IsCellOf spec null = spec.optional ≡ true
+IsCellOf spec cell = IsValueOf spec.kind cell
+
+abbrev pub AreCellsOf : ColumnSpec → List Cell → Type 0
+AreCellsOf spec [] = Unit {0}
+AreCellsOf spec (cell ∷ cells) = IsCellOf spec cell × AreCellsOf spec cells
+
+-- ---- what a column keeps
+-- the bytes of a value: PLAIN, but a byte of 0 or 1 for a boolean
+abbrev pub text_of : ColumnKind → Cell → List ℕ
+text_of kind null = []
+text_of kind (bool b) = (if b then 1 else 0) ∷ []
+text_of kind (int32 n) = to_le_bytes w32 (cast_unsigned w32 n)
+text_of kind (int64 n) = to_le_bytes w64 (cast_unsigned w64 n)
+text_of ByteArray (bytes xs) = to_le_bytes w32 (length xs) ++ xs
+text_of _ (bytes xs) = xs
+
+-- the bytes of all values
+abbrev pub values_text : ColumnKind → List Cell → List ℕ
+values_text kind [] = []
+values_text kind (cell ∷ cells) = text_of kind cell ++ values_text kind cells
+
+-- where the bytes of each cell begin
+abbrev pub starts_of : ColumnKind → ℕ → List Cell → List ℕ
+starts_of kind start [] = []
+starts_of kind start (cell ∷ cells) = start ∷ starts_of kind (start + length (text_of kind cell)) cells
+
+abbrev pub level_of : Cell → ℕ
+level_of null = 0
+level_of _ = 1
+
+abbrev pub levels_of : List Cell → List ℕ
+levels_of cells = map level_of cells
+
+-- the cell whose bytes begin at `start`
+abbrev pub value_kept : ColumnKind → ℕ → List ℕ → Cell
+value_kept Boolean start values = value_of Boolean (drop start values)
+value_kept kind start values = cell_at kind start values
+
+abbrev pub cell_kept : ColumnKind → ℕ → ℕ → List ℕ → Cell
+cell_kept kind zero start values = null
+cell_kept kind (suc _) start values = value_kept kind start values
+
+abbrev pub cells_kept : ColumnKind → List ℕ → List ℕ → List ℕ → List Cell
+cells_kept kind [] starts values = []
+cells_kept kind (level ∷ levels) [] values = []
+cells_kept kind (level ∷ levels) (start ∷ starts) values = cell_kept kind level start values ∷ cells_kept kind levels starts values
+
+-- these bytes are what a column of the cells keeps
+pub record Keeps (spec : ColumnSpec) (cells : List Cell) (levels starts values : List ℕ) : Type 0 where
+  pub of_spec : AreCellsOf spec cells
+  pub levels_are : levels ≡ levels_of cells
+  pub starts_are : starts ≡ starts_of spec.kind 0 cells
+  pub values_are : values ≡ values_text spec.kind cells
+
+-- ---- tables
+-- the rows of the first column
+abbrev pub rows_of : List Column → ℕ
+rows_of [] = 0
+rows_of (column ∷ columns) = length column.cells
+
+abbrev pub AreOfLength : ℕ → List Column → Type 0
+AreOfLength rows [] = Unit {0}
+AreOfLength rows (column ∷ columns) = (length column.cells ≡ rows) × AreOfLength rows columns
+
+-- the columns of a table have one length
+abbrev pub IsTable : List Column → Type 0
+IsTable columns = AreOfLength (rows_of columns) columns
+
+-- a column that a table may be given: of any length where it is the first
+abbrev pub IsNextColumn : List Column → Column → Type 0
+IsNextColumn [] column = Unit {0}
+IsNextColumn (first ∷ columns) column = length column.cells ≡ length first.cells
+
+abbrev pub cell_in : List Column → ℕ → ℕ → Option Cell
+cell_in table column row = option_and_then (λ (c : Column). slice_get c.cells row) (slice_get table column)
+
+-- ---- pages
+-- PLAIN values of the bytes that a column keeps: booleans as bits, others as they are
+abbrev pub plain_text : ColumnKind → List ℕ → List ℕ
+plain_text Boolean values = bits_text values
+plain_text kind values = values
+
+-- levels: one bit-packed run behind its length
+abbrev pub levels_text : List ℕ → List ℕ
+levels_text levels = to_le_bytes w32 (length (run_text levels)) ++ run_text levels
+
+-- a page of these levels and values: levels only where the column is OPTIONAL
+unfoldable pub page_of : ColumnSpec → List ℕ → List ℕ → List ℕ
+page_of spec levels values = (if spec.optional then levels_text levels else []) ++ plain_text spec.kind values
+
+-- the body of a page of these cells
+abbrev pub page_text : ColumnSpec → List Cell → List ℕ
+page_text spec cells = page_of spec (levels_of cells) (values_text spec.kind cells)
+
+-- some rows of a column
+abbrev pub rows_between : ℕ → ℕ → List Cell → List Cell
+rows_between from to cells = take (to - from) (drop from cells)
+
+-- a body is the page of these cells, whatever dictionary there is
+abbrev pub IsPageOf : ColumnSpec → List Cell → List ℕ → Type 0
+IsPageOf spec cells body =
+    (place : Place) (head : DataHead) (entries : List Cell) → cast_unsigned w32 head.num_values ≡ length cells → is_coded head.encoding ≡ false
+    → page place spec head entries body ≡ Ok cells
+
+-- the page of cells is read back
+abbrev pub PagesReadBack : Type 0
+PagesReadBack = (spec : ColumnSpec) (cells : List Cell) → AreCellsOf spec cells → length cells ≤ 16777216 → IsPageOf spec cells (page_text spec cells)

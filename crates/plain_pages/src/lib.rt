@@ -1,0 +1,29 @@
+// The cells of a page: where each value of a body begins, and the cells that a view lends without a copy.
+#![tactic(auto)]
+
+ghost use Rattle.plain_pages.specs.Columns.{PagesReadBack};
+
+mod cell_ref;
+mod dictionary;
+mod faults;
+mod levels;
+mod page_index;
+mod page_view;
+mod page_writing;
+mod places;
+mod plain;
+mod ranks;
+mod table;
+mod table_column;
+
+pub use cell_ref::CellRef;
+pub use dictionary::Dictionary;
+pub use page_index::PageIndex;
+pub use page_view::PageView;
+pub use table::{Table, write_page};
+pub use table_column::TableColumn;
+
+/// The law that a page's text is read back as its cells.
+pub fn pages_are_read_back()
+    ensures { PagesReadBack }
+{}

@@ -1,0 +1,89 @@
+ghost use Rattle.std.specs.Prelude.{◌≡◌, ◌+◌, ◌*◌, ◌^◌, ◌<◌, length, slice_get};
+ghost use Rattle.plain_pages.specs.PlacesInside.{even};
+
+use std::marker::Model;
+
+/// How a list of places is kept.
+#[derive(Debug, Drop)]
+pub enum PlaceLayout {
+    /// The first, the distance from each to the next, and how many there are.
+    Even(usize, usize, usize),
+    Listed(Vec<u32>),
+}
+
+/// The places of values, in order: those of one size take no memory.
+#[derive(Debug, Drop)]
+pub struct Places {
+    layout: PlaceLayout,
+}
+
+impl Model for Places {
+    ghost use Rattle.std.specs.Prelude.{List, ℕ};
+    ghost use Rattle.plain_pages.specs.PlacesInside.{places_in, AreSmall};
+
+    ghost Value = { List ℕ };
+
+    ghost view = { λ p. places_in p.layout };
+
+    ghost invariant = { λ p. AreSmall p.layout };
+}
+
+impl Places {
+    pub fn even(first: usize, step: usize, count: usize) -> Places
+        requires { first + step * count < 2 ^ 64 }
+        ensures { result ≡ even first step count }
+    {
+        Places {
+            layout: PlaceLayout::Even(first, step, count),
+        }
+    }
+
+    pub fn listed(places: Vec<u32>) -> Places
+        ensures { result ≡ places.items }
+    {
+        Places {
+            layout: PlaceLayout::Listed(places),
+        }
+    }
+
+    pub fn len(&self) -> usize
+        ensures { result ≡ length self.now }
+    {
+        match &self.layout {
+            PlaceLayout::Even(first, step, count) => even_length(*first, *step, *count),
+            PlaceLayout::Listed(places) => places.len(),
+        }
+    }
+
+    pub fn get(&self, k: usize) -> Option<usize>
+        ensures { result ≡ slice_get self.now k }
+    {
+        match &self.layout {
+            PlaceLayout::Even(first, step, count) => even_place(*first, *step, *count, k),
+            PlaceLayout::Listed(places) => listed_place(places.as_slice(), k),
+        }
+    }
+}
+
+fn even_length(first: usize, step: usize, count: usize) -> usize
+    ensures { result ≡ length (even first step count) }
+{
+    count
+}
+
+fn even_place(first: usize, step: usize, count: usize, k: usize) -> Option<usize>
+    requires { first + step * count < 2 ^ 64 }
+    ensures { result ≡ slice_get (even first step count) k }
+{
+    if k >= count {
+        return None;
+    }
+    Some(first + step * k)
+}
+
+fn listed_place(places: &[u32], k: usize) -> Option<usize>
+    ensures { result ≡ slice_get places.now k }
+{
+    let place = places.get(k)?;
+    Some(*place as usize)
+}

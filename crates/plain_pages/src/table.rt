@@ -1,0 +1,111 @@
+ghost use Rattle.std.specs.Prelude.{◌≡◌, ◌<◌, ◌≤◌, ◌-◌, ◌∷◌, ◌++◌, [], length, drop, slice_get, Some, OnOk, OnErr, option_map};
+ghost use Rattle.plain_pages.specs.Cells.{cell_of};
+ghost use Rattle.plain_pages.specs.Columns as columns;
+
+use crate::cell_ref::CellRef;
+use crate::table_column::TableColumn;
+use parquet_types::ColumnSpec;
+use pme_base::{Bytes, OutOfMemory};
+use std::alloc::Global;
+use std::marker::Model;
+
+/// Columns of one length. A contract sees them as a list.
+#[derive(Debug, Drop)]
+pub struct Table {
+    columns: Vec<TableColumn>,
+}
+
+impl Model for Table {
+    ghost use Rattle.std.specs.Prelude.{List};
+    ghost use Rattle.plain_pages.specs.Columns.{Column, IsTable};
+
+    ghost Value = { List Column };
+
+    ghost view = { λ t. t.columns.items };
+
+    ghost invariant = { λ t. IsTable t.columns.items };
+}
+
+impl Table {
+    /// A table without columns, and so without rows; it takes no memory yet.
+    pub fn new(alloc: Global) -> Table
+        ensures { result ≡ [] }
+    {
+        Table {
+            columns: Vec::new(alloc),
+        }
+    }
+
+    /// Adds a column behind the others. It has as many cells as those have.
+    pub fn add(&mut self, column: TableColumn) -> Result<(), OutOfMemory>
+        requires { columns.IsNextColumn self.old column }
+        ensures added { OnOk result (self.new ≡ self.old ++ column ∷ []) }
+        ensures unchanged { OnErr result (self.new ≡ self.old) }
+    {
+        self.columns.push(column)?;
+        Ok(())
+    }
+
+    /// How many rows there are; none where there is no column.
+    pub fn rows(&self) -> usize
+        ensures { result ≡ columns.rows_of self.now }
+    {
+        match self.columns.first() {
+            Some(column) => column.len(),
+            None => 0,
+        }
+    }
+
+    /// How many columns there are.
+    pub fn columns(&self) -> usize
+        ensures { result ≡ length self.now }
+    {
+        self.columns.len()
+    }
+
+    /// What a column is.
+    pub fn spec(&self, column: usize) -> &ColumnSpec
+        requires { column < length self.now }
+        ensures { option_map (λ c. c.spec) (slice_get self.now column) ≡ Some result.now }
+    {
+        self.column(column).spec()
+    }
+
+    /// The cell of a column in a row. It is lent: nothing is copied.
+    pub fn cell(&self, column: usize, row: usize) -> CellRef<'_>
+        requires column { column < length self.now }
+        requires row { row < columns.rows_of self.now }
+        ensures cell { columns.cell_in self.now column row ≡ Some (cell_of result) }
+        ensures of_spec { (c : columns.Column) → slice_get self.now column ≡ Some c → columns.IsCellOf c.spec (cell_of result) }
+    {
+        self.column(column).cell(row)
+    }
+
+    fn column(&self, column: usize) -> &TableColumn
+        requires { column < length self.now }
+        ensures item { slice_get self.now column ≡ Some result.now }
+        ensures rows { length result.now.cells ≡ columns.rows_of self.now }
+    {
+        &self.columns[column]
+    }
+}
+
+/// Adds the page of the rows from `from` to before `to` of a column to the end of `into`: levels as one bit-packed
+/// run where the column is OPTIONAL, and the values PLAIN. A refusal leaves `into` unchanged.
+pub fn write_page(
+    table: &Table,
+    column: usize,
+    from: usize,
+    to: usize,
+    into: &mut Bytes,
+) -> Result<(), OutOfMemory>
+    requires column { column < length table.now }
+    requires order { from ≤ to }
+    requires inside { to ≤ columns.rows_of table.now }
+    requires few { to - from ≤ 16777216 }
+    ensures written { (c : columns.Column) → slice_get table.now column ≡ Some c → OnOk result (into.new ≡ into.old ++ columns.page_text c.spec (columns.rows_between from to c.cells)) }
+    ensures read_back { (c : columns.Column) → slice_get table.now column ≡ Some c → OnOk result (columns.IsPageOf c.spec (columns.rows_between from to c.cells) (drop (length into.old) into.new)) }
+    ensures unchanged { OnErr result (into.new ≡ into.old) }
+{
+    table.column(column).write_rows(from, to, into)
+}

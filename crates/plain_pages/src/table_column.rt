@@ -1,0 +1,245 @@
+ghost use Rattle.std.specs.Prelude.{◌≡◌, ◌<◌, ◌≤◌, ◌-◌, ◌∷◌, ◌++◌, [], length, take, drop, slice_get, Some, OnOk, OnErr};
+ghost use Rattle.std.specs.Prelude.{slice_index, ◌%◌};
+ghost use Rattle.std.specs.Int.{w32, to_le_bytes};
+ghost use Rattle.plain_pages.specs.Cells.{cell_of, bytes as bytes_cell};
+ghost use Rattle.plain_pages.specs.Columns as columns;
+
+use crate::cell_ref::CellRef;
+use crate::page_writing::append_page;
+use crate::plain::cell_at;
+use parquet_types::{ColumnKind, ColumnSpec};
+use pme_base::{Bytes, OutOfMemory};
+use std::alloc::Global;
+use std::marker::Model;
+
+/// A column of a table. Beside the bytes of its values it keeps nine bytes for each cell.
+#[derive(Debug, Drop)]
+pub struct TableColumn {
+    spec: ColumnSpec,
+    // 0 for a null and 1 for a value, as a page's levels are.
+    levels: Vec<u8>,
+    // Where the bytes of each cell begin.
+    starts: Vec<usize>,
+    // The values one behind the other: PLAIN, but a byte of 0 or 1 for a boolean.
+    values: Vec<u8>,
+}
+
+impl Model for TableColumn {
+    ghost use Rattle.plain_pages.specs.Columns.{Column, Keeps, cells_kept};
+
+    ghost Value = { Column };
+
+    ghost view = { λ c. record { spec = c.spec; cells = cells_kept c.spec.kind c.levels.items c.starts.items c.values.items } };
+
+    ghost invariant = { λ c. Keeps c.spec (cells_kept c.spec.kind c.levels.items c.starts.items c.values.items) c.levels.items c.starts.items c.values.items };
+}
+
+impl TableColumn {
+    /// A column without cells; it takes no memory yet.
+    pub fn new(alloc: Global, spec: ColumnSpec) -> TableColumn
+        ensures { result ≡ record { spec = spec; cells = [] } }
+    {
+        TableColumn {
+            spec,
+            levels: Vec::new(alloc),
+            starts: Vec::new(alloc),
+            values: Vec::new(alloc),
+        }
+    }
+
+    /// How many cells there are.
+    pub fn len(&self) -> usize
+        ensures { result ≡ length self.now.cells }
+    {
+        self.levels.len()
+    }
+
+    /// What the column is.
+    pub(crate) fn spec(&self) -> &ColumnSpec
+        ensures { result.now ≡ self.now.spec }
+    {
+        &self.spec
+    }
+
+    /// Adds a cell at the end. It is one that the column may hold: a value of its physical type, of at most
+    /// 268,435,456 bytes, or null where it is optional.
+    pub fn push(&mut self, cell: CellRef<'_>) -> Result<(), OutOfMemory>
+        requires { columns.IsCellOf self.old.spec (cell_of cell) }
+        ensures pushed { OnOk result (self.new ≡ record self.old { cells = self.old.cells ++ cell_of cell.entry ∷ [] }) }
+        ensures unchanged { OnErr result (self.new ≡ self.old) }
+    {
+        self.levels.reserve(1)?;
+        self.starts.reserve(1)?;
+        let start = self.values.len();
+        put_value(&self.spec, cell, &mut self.values)?;
+        self.starts.push(start)?;
+        self.levels.push(level_of(cell))?;
+        Ok(())
+    }
+
+    /// The cell of a row.
+    pub(crate) fn cell(&self, row: usize) -> CellRef<'_>
+        requires { row < length self.now.cells }
+        ensures cell { slice_get self.now.cells row ≡ Some (cell_of result) }
+        ensures of_spec { columns.IsCellOf self.now.spec (cell_of result) }
+    {
+        if self.levels[row] == 0 {
+            return CellRef::Null;
+        }
+        value_at(self.spec.kind, self.starts[row], self.values.as_slice())
+    }
+
+    /// Adds the page of some rows to the end of `into`, or leaves it as it is.
+    pub(crate) fn write_rows(
+        &self,
+        from: usize,
+        to: usize,
+        into: &mut Bytes,
+    ) -> Result<(), OutOfMemory>
+        requires order { from ≤ to }
+        requires inside { to ≤ length self.now.cells }
+        requires few { to - from ≤ 16777216 }
+        ensures written { OnOk result (into.new ≡ into.old ++ columns.page_text self.now.spec (columns.rows_between from to self.now.cells)) }
+        ensures read_back { OnOk result (columns.IsPageOf self.now.spec (columns.rows_between from to self.now.cells) (drop (length into.old) into.new)) }
+        ensures unchanged { OnErr result (into.new ≡ into.old) }
+    {
+        let mut bytes = into.take();
+        let length = bytes.len();
+        let written = self.append_rows(from, to, &mut bytes);
+        if written.is_err() {
+            bytes.truncate(length);
+        }
+        *into = Bytes::from_vec(bytes);
+        written
+    }
+
+    fn append_rows(&self, from: usize, to: usize, bytes: &mut Vec<u8>) -> Result<(), OutOfMemory>
+        requires order { from ≤ to }
+        requires inside { to ≤ length self.now.cells }
+        requires few { to - from ≤ 16777216 }
+        ensures appended { OnOk result (bytes.new.items ≡ bytes.old.items ++ columns.page_text self.now.spec (columns.rows_between from to self.now.cells)) }
+        ensures kept { OnErr result (take (length bytes.old.items) bytes.new.items ≡ bytes.old.items) }
+        ensures page { columns.IsPageOf self.now.spec (columns.rows_between from to self.now.cells) (columns.page_text self.now.spec (columns.rows_between from to self.now.cells)) }
+    {
+        append_page(
+            &self.spec,
+            self.levels_between(from, to),
+            self.values_between(from, to),
+            bytes,
+        )
+    }
+
+    fn levels_between(&self, from: usize, to: usize) -> &[u8]
+        requires order { from ≤ to }
+        requires inside { to ≤ length self.now.cells }
+        ensures { result.now ≡ columns.levels_of (columns.rows_between from to self.now.cells) }
+    {
+        part(self.levels.as_slice(), from, to)
+    }
+
+    fn values_between(&self, from: usize, to: usize) -> &[u8]
+        requires order { from ≤ to }
+        requires inside { to ≤ length self.now.cells }
+        ensures { result.now ≡ columns.values_text self.now.spec.kind (columns.rows_between from to self.now.cells) }
+    {
+        let start = self.start_of(from);
+        let end = self.start_of(to);
+        part(self.values.as_slice(), start, end)
+    }
+
+    /// Where the bytes of a row begin, or of the row behind the last.
+    fn start_of(&self, row: usize) -> usize
+        requires { row ≤ length self.now.cells }
+        ensures { result ≡ length (columns.values_text self.now.spec.kind (take row self.now.cells)) }
+    {
+        if row < self.starts.len() {
+            self.starts[row]
+        } else {
+            self.values.len()
+        }
+    }
+}
+
+fn part(bytes: &[u8], start: usize, end: usize) -> &[u8]
+    requires order { start ≤ end }
+    requires inside { end ≤ length bytes.now }
+    ensures { result.now ≡ take (end - start) (drop start bytes.now) }
+{
+    &bytes[start..end]
+}
+
+/// 0 for a null and 1 for a value.
+fn level_of(cell: CellRef<'_>) -> u8
+    ensures { result ≡ columns.level_of (cell_of cell.entry) }
+{
+    match cell {
+        CellRef::Null => 0,
+        _ => 1,
+    }
+}
+
+/// The value whose bytes begin at `start`.
+fn value_at<'a>(kind: ColumnKind, start: usize, values: &'a [u8]) -> CellRef<'a>
+    ensures { cell_of result ≡ columns.value_kept kind start values.now }
+{
+    match kind {
+        ColumnKind::Boolean => CellRef::Bool(byte_at(start, values) % 2 == 1),
+        _ => cell_at(kind, start, values),
+    }
+}
+
+fn byte_at(start: usize, values: &[u8]) -> u8
+    ensures { result ≡ slice_index (drop start values.now) 0 }
+{
+    if start < values.len() {
+        values[start]
+    } else {
+        0
+    }
+}
+
+/// Adds the bytes of a value to the end of `values`, or leaves them as they are.
+fn put_value(spec: &ColumnSpec, cell: CellRef<'_>, values: &mut Vec<u8>) -> Result<(), OutOfMemory>
+    requires { columns.IsCellOf spec.now (cell_of cell) }
+    ensures put { OnOk result (values.new.items ≡ values.old.items ++ columns.text_of spec.now.kind (cell_of cell.entry)) }
+    ensures unchanged { OnErr result (values.new.items ≡ values.old.items) }
+{
+    match cell {
+        CellRef::Null => Ok(()),
+        CellRef::Bool(value) => put_bytes(&[u8::from(value)], values),
+        CellRef::Int32(value) => put_bytes(&value.to_le_bytes(), values),
+        CellRef::Int64(value) => put_bytes(&value.to_le_bytes(), values),
+        CellRef::Bytes(bytes) => put_raw(spec.kind, bytes, values),
+    }
+}
+
+/// Adds bytes, behind their length where they are a byte array's.
+fn put_raw(kind: ColumnKind, bytes: &[u8], values: &mut Vec<u8>) -> Result<(), OutOfMemory>
+    requires { columns.IsValueOf kind (bytes_cell bytes.now) }
+    ensures put { OnOk result (values.new.items ≡ values.old.items ++ columns.text_of kind (bytes_cell bytes.now)) }
+    ensures unchanged { OnErr result (values.new.items ≡ values.old.items) }
+{
+    match kind {
+        ColumnKind::ByteArray => put_array(bytes, values),
+        _ => put_bytes(bytes, values),
+    }
+}
+
+fn put_array(bytes: &[u8], values: &mut Vec<u8>) -> Result<(), OutOfMemory>
+    requires { length bytes.now ≤ 268435456 }
+    ensures put { OnOk result (values.new.items ≡ values.old.items ++ (to_le_bytes w32 (length bytes.now) ++ bytes.now)) }
+    ensures unchanged { OnErr result (values.new.items ≡ values.old.items) }
+{
+    values.reserve(4 + bytes.len())?;
+    values.extend_from_slice(&(bytes.len() as u32).to_le_bytes())?;
+    values.extend_from_slice(bytes)?;
+    Ok(())
+}
+
+pub fn put_bytes(bytes: &[u8], values: &mut Vec<u8>) -> Result<(), OutOfMemory>
+    ensures put { OnOk result (values.new.items ≡ values.old.items ++ bytes.now) }
+    ensures unchanged { OnErr result (values.new.items ≡ values.old.items) }
+{
+    values.extend_from_slice(bytes)?;
+    Ok(())
+}

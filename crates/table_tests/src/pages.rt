@@ -1,0 +1,392 @@
+ghost use Rattle.std.specs.Prelude.{◌≡◌, length, IfOk};
+ghost use Rattle.plain_pages.specs.Cells.{bytes as bytes_cell};
+ghost use Rattle.plain_pages.specs.Columns.{IsValueOf};
+
+use parquet_types::{ColumnKind, ColumnSpec, DataHead};
+use plain_pages::{CellRef, Dictionary, PageIndex, PageView, Table, TableColumn, write_page};
+use pme_base::{Bytes, OutOfMemory, Place};
+use std::alloc::{AllocError, Global};
+use std::test::Fail;
+
+fn spec_of(alloc: Global, kind: ColumnKind, optional: bool) -> ColumnSpec
+    ensures kind { result.kind ≡ kind }
+    ensures optional { result.optional ≡ optional }
+{
+    ColumnSpec {
+        name: Bytes::new(alloc),
+        kind,
+        optional,
+        text: false,
+    }
+}
+
+fn shown(alloc: Global, view: &PageView<'_>) -> Result<String, AllocError> {
+    let mut text = String::new(alloc);
+    for i in 0..view.count() {
+        let cell = format!(in alloc; "{:?};", view.cell(i))?;
+        text.push_str(cell.as_str())?;
+    }
+    Ok(text)
+}
+
+/// The cells of a page, or the detail of its refusal.
+fn told(
+    alloc: Global,
+    spec: &ColumnSpec,
+    count: u16,
+    encoding: i32,
+    dictionary: Option<&Dictionary>,
+    body: &[u8],
+) -> Result<String, AllocError> {
+    let head = DataHead {
+        uncompressed: 0,
+        compressed: 0,
+        num_values: i32::from(count),
+        encoding,
+        level_encoding: 3,
+    };
+    match PageIndex::build(alloc, &Place::file(), spec, &head, dictionary, body) {
+        Ok(index) => shown(alloc, &PageView::new(body, &index, dictionary)),
+        Err(refusal) => format!(in alloc; "{:?}", refusal.detail),
+    }
+}
+
+#[test]
+fn reads_plain_pages_or_tells_the_first_fault(rt: HostRuntime) -> Result<(), Fail> {
+    let rows: [(ColumnKind, bool, u16, &[u8], &str); 19] = [
+        (
+            ColumnKind::Int32,
+            false,
+            4,
+            &[1, 0, 0, 0, 2, 0, 0, 0, 3, 0, 0, 0, 4, 0, 0, 0],
+            "Int32(1);Int32(2);Int32(3);Int32(4);",
+        ),
+        (
+            ColumnKind::Int32,
+            false,
+            2,
+            &[255, 255, 255, 255, 4, 0, 0],
+            "Part(Values, 1)",
+        ),
+        (
+            ColumnKind::ByteArray,
+            true,
+            4,
+            &[
+                2, 0, 0, 0, 3, 13, 3, 0, 0, 0, 97, 110, 110, 0, 0, 0, 0, 3, 0, 0, 0, 97, 44, 98,
+            ],
+            "Bytes([97, 110, 110]);Null;Bytes([]);Bytes([97, 44, 98]);",
+        ),
+        (
+            ColumnKind::Boolean,
+            true,
+            4,
+            &[2, 0, 0, 0, 3, 0x0b, 0x05],
+            "Bool(true);Bool(false);Null;Bool(true);",
+        ),
+        (
+            ColumnKind::Int32,
+            true,
+            4,
+            &[2, 0, 0, 0, 3, 2],
+            "Part(Values, 0)",
+        ),
+        (
+            ColumnKind::Int32,
+            true,
+            4,
+            &[2, 0, 0, 0, 8, 0],
+            "Null;Null;Null;Null;",
+        ),
+        (ColumnKind::Int32, true, 0, &[0, 0, 0, 0], ""),
+        (ColumnKind::Int32, true, 0, &[], "Part(Levels, 0)"),
+        (
+            ColumnKind::Int32,
+            true,
+            2,
+            &[2, 0, 0, 0, 4],
+            "Part(Levels, 0)",
+        ),
+        (
+            ColumnKind::Int32,
+            true,
+            2,
+            &[2, 0, 0, 0, 4, 2],
+            "Part(Levels, 0)",
+        ),
+        (
+            ColumnKind::Int32,
+            true,
+            2,
+            &[4, 0, 0, 0, 2, 0, 2, 2],
+            "Part(Levels, 1)",
+        ),
+        (
+            ColumnKind::Int32,
+            true,
+            2,
+            &[2, 0, 0, 0, 2, 0, 2, 0],
+            "Part(Levels, 1)",
+        ),
+        (
+            ColumnKind::Boolean,
+            false,
+            9,
+            &[0b1000_0001, 1],
+            "Bool(true);Bool(false);Bool(false);Bool(false);Bool(false);Bool(false);Bool(false);Bool(true);Bool(true);",
+        ),
+        (ColumnKind::Boolean, false, 17, &[0, 0], "Part(Values, 16)"),
+        (
+            ColumnKind::Int64,
+            false,
+            1,
+            &[254, 255, 255, 255, 255, 255, 255, 255],
+            "Int64(-2);",
+        ),
+        (
+            ColumnKind::Int96,
+            false,
+            1,
+            &[1, 2, 3, 4, 5, 6, 7, 8, 9, 10, 11, 12],
+            "Bytes([1, 2, 3, 4, 5, 6, 7, 8, 9, 10, 11, 12]);",
+        ),
+        (
+            ColumnKind::Double,
+            false,
+            1,
+            &[0, 0, 0, 0, 0, 0, 240],
+            "Part(Values, 0)",
+        ),
+        (
+            ColumnKind::Fixed(3),
+            false,
+            2,
+            &[1, 2, 3, 4, 5, 6, 7],
+            "Bytes([1, 2, 3]);Bytes([4, 5, 6]);",
+        ),
+        (
+            ColumnKind::ByteArray,
+            false,
+            2,
+            &[1, 0, 0, 0, 9, 5, 0, 0, 0, 9],
+            "Part(Values, 1)",
+        ),
+    ];
+    for (kind, optional, count, body, expected) in rows {
+        let spec = spec_of(rt.alloc(), kind, optional);
+        let text = told(rt.alloc(), &spec, count, 0, None, body)?;
+        assert_eq!(rt; text.as_str(), expected);
+    }
+    Ok(())
+}
+
+#[test]
+fn reads_indexes_into_a_dictionary(rt: HostRuntime) -> Result<(), Fail> {
+    let rows: [(bool, u16, &[u8], &str); 11] = [
+        (
+            false,
+            4,
+            &[2, 3, 0xe4, 0],
+            "Int32(7);Int32(8);Int32(9);Int32(10);",
+        ),
+        (false, 4, &[2, 8, 1], "Int32(8);Int32(8);Int32(8);Int32(8);"),
+        (false, 4, &[0, 8], "Int32(7);Int32(7);Int32(7);Int32(7);"),
+        (false, 4, &[3, 8, 4], "Part(Values, 0)"),
+        (false, 4, &[33, 8, 0], "Part(Values, 0)"),
+        (
+            false,
+            4,
+            &[2, 3, 0xe4],
+            "Int32(7);Int32(8);Int32(9);Int32(10);",
+        ),
+        (false, 5, &[2, 3, 0xe4], "Part(Values, 4)"),
+        (false, 1, &[], "Part(Values, 0)"),
+        (false, 0, &[], ""),
+        (true, 2, &[2, 0, 0, 0, 4, 0], "Null;Null;"),
+        (
+            true,
+            3,
+            &[2, 0, 0, 0, 3, 5, 2, 3, 0x0e],
+            "Int32(9);Null;Int32(10);",
+        ),
+    ];
+    let spec = spec_of(rt.alloc(), ColumnKind::Int32, false);
+    let entries = Bytes::copy_of(
+        rt.alloc(),
+        &[7, 0, 0, 0, 8, 0, 0, 0, 9, 0, 0, 0, 10, 0, 0, 0],
+    )?;
+    let dictionary = Dictionary::build(rt.alloc(), &Place::file(), &spec, 4, entries);
+    let Ok(dictionary) = dictionary else {
+        return Err(Fail::from("no dictionary"));
+    };
+    for (optional, count, body, expected) in rows {
+        let spec = spec_of(rt.alloc(), ColumnKind::Int32, optional);
+        let text = told(rt.alloc(), &spec, count, 8, Some(&dictionary), body)?;
+        assert_eq!(rt; text.as_str(), expected);
+    }
+    Ok(())
+}
+
+#[test]
+fn tells_the_first_entry_that_is_not_there(rt: HostRuntime) -> Result<(), Fail> {
+    let spec = spec_of(rt.alloc(), ColumnKind::ByteArray, false);
+    let body = Bytes::copy_of(rt.alloc(), &[0, 0, 0, 0, 2, 0, 0, 0, 1])?;
+    let refused = Dictionary::build(rt.alloc(), &Place::file(), &spec, 2, body).err();
+    let detail = format!(in rt.alloc(); "{:?}", refused.map(|refusal| refusal.detail))?;
+    assert_eq!(rt; detail.as_str(), "Some(Part(Dictionary, 1))");
+    Ok(())
+}
+
+fn texts(alloc: Global) -> Result<TableColumn, OutOfMemory>
+    ensures { IfOk result (λ column. length column.cells ≡ 4) }
+{
+    let mut column = TableColumn::new(alloc, spec_of(alloc, ColumnKind::ByteArray, true));
+    column.push(CellRef::Bytes(b"ann"))?;
+    column.push(CellRef::Null)?;
+    column.push(CellRef::Bytes(b""))?;
+    column.push(CellRef::Bytes(b"a,b"))?;
+    Ok(column)
+}
+
+fn flags(alloc: Global) -> Result<TableColumn, OutOfMemory>
+    ensures { IfOk result (λ column. length column.cells ≡ 4) }
+{
+    let mut column = TableColumn::new(alloc, spec_of(alloc, ColumnKind::Boolean, true));
+    column.push(CellRef::Bool(true))?;
+    column.push(CellRef::Bool(false))?;
+    column.push(CellRef::Null)?;
+    column.push(CellRef::Bool(true))?;
+    Ok(column)
+}
+
+fn numbers(alloc: Global) -> Result<TableColumn, OutOfMemory> {
+    let mut column = TableColumn::new(alloc, spec_of(alloc, ColumnKind::Int64, false));
+    column.push(CellRef::Int64(5))?;
+    column.push(CellRef::Int64(-2))?;
+    Ok(column)
+}
+
+fn small_numbers(alloc: Global) -> Result<TableColumn, OutOfMemory> {
+    let mut column = TableColumn::new(alloc, spec_of(alloc, ColumnKind::Int32, true));
+    column.push(CellRef::Int32(-7))?;
+    column.push(CellRef::Null)?;
+    column.push(CellRef::Int32(258))?;
+    Ok(column)
+}
+
+/// A value that is bytes, a null, and the value again.
+fn around_a_null(alloc: Global, kind: ColumnKind, value: &[u8]) -> Result<TableColumn, OutOfMemory>
+    requires { IsValueOf kind (bytes_cell value.now) }
+{
+    let mut column = TableColumn::new(alloc, spec_of(alloc, kind, true));
+    column.push(CellRef::Bytes(value))?;
+    column.push(CellRef::Null)?;
+    column.push(CellRef::Bytes(value))?;
+    Ok(column)
+}
+
+/// The page of some rows of a table with this one column, and its cells as they are read again.
+fn written(alloc: Global, column: TableColumn, from: u16, to: u16) -> Result<String, Fail> {
+    let mut table = Table::new(alloc);
+    table.add(column)?;
+    let from = usize::from(from);
+    let to = usize::from(to);
+    if table.columns() == 0 || from > to || to > table.rows() || to - from > 4 {
+        return Err(Fail::from("no such rows"));
+    }
+    let mut body = Bytes::new(alloc);
+    write_page(&table, 0, from, to, &mut body)?;
+    let count = (to - from) as u16;
+    let read = told(alloc, table.spec(0), count, 0, None, body.as_slice())?;
+    Ok(format!(in alloc; "{:?} {read}", body.as_slice())?)
+}
+
+#[test]
+fn writes_pages_that_are_read_back(rt: HostRuntime) -> Result<(), Fail> {
+    let whole = written(rt.alloc(), texts(rt.alloc())?, 0, 4)?;
+    assert_eq!(rt;
+        whole.as_str(),
+        "[2, 0, 0, 0, 3, 13, 3, 0, 0, 0, 97, 110, 110, 0, 0, 0, 0, 3, 0, 0, 0, 97, 44, 98] Bytes([97, 110, 110]);Null;Bytes([]);Bytes([97, 44, 98]);"
+    );
+    let rest = written(rt.alloc(), texts(rt.alloc())?, 2, 4)?;
+    assert_eq!(rt;
+        rest.as_str(),
+        "[2, 0, 0, 0, 3, 3, 0, 0, 0, 0, 3, 0, 0, 0, 97, 44, 98] Bytes([]);Bytes([97, 44, 98]);"
+    );
+    let bits = written(rt.alloc(), flags(rt.alloc())?, 0, 4)?;
+    assert_eq!(rt;
+        bits.as_str(),
+        "[2, 0, 0, 0, 3, 11, 5] Bool(true);Bool(false);Null;Bool(true);"
+    );
+    let middle = written(rt.alloc(), flags(rt.alloc())?, 1, 3)?;
+    assert_eq!(rt; middle.as_str(), "[2, 0, 0, 0, 3, 1, 0] Bool(false);Null;");
+    let plain = written(rt.alloc(), numbers(rt.alloc())?, 0, 2)?;
+    assert_eq!(rt;
+        plain.as_str(),
+        "[5, 0, 0, 0, 0, 0, 0, 0, 254, 255, 255, 255, 255, 255, 255, 255] Int64(5);Int64(-2);"
+    );
+    Ok(())
+}
+
+#[test]
+fn writes_the_other_types_with_nulls(rt: HostRuntime) -> Result<(), Fail> {
+    let alloc = rt.alloc();
+    let whole = written(alloc, small_numbers(alloc)?, 0, 3)?;
+    assert_eq!(rt;
+        whole.as_str(),
+        "[2, 0, 0, 0, 3, 5, 249, 255, 255, 255, 2, 1, 0, 0] Int32(-7);Null;Int32(258);"
+    );
+    let float = around_a_null(alloc, ColumnKind::Float, &[0, 0, 128, 63])?;
+    let whole = written(alloc, float, 0, 3)?;
+    assert_eq!(rt;
+        whole.as_str(),
+        "[2, 0, 0, 0, 3, 5, 0, 0, 128, 63, 0, 0, 128, 63] Bytes([0, 0, 128, 63]);Null;Bytes([0, 0, 128, 63]);"
+    );
+    let double = around_a_null(alloc, ColumnKind::Double, &[0, 0, 0, 0, 0, 0, 240, 63])?;
+    let last = written(alloc, double, 1, 3)?;
+    assert_eq!(rt;
+        last.as_str(),
+        "[2, 0, 0, 0, 3, 2, 0, 0, 0, 0, 0, 0, 240, 63] Null;Bytes([0, 0, 0, 0, 0, 0, 240, 63]);"
+    );
+    let old = around_a_null(
+        alloc,
+        ColumnKind::Int96,
+        &[1, 2, 3, 4, 5, 6, 7, 8, 9, 10, 11, 12],
+    )?;
+    let first = written(alloc, old, 0, 1)?;
+    assert_eq!(rt;
+        first.as_str(),
+        "[2, 0, 0, 0, 3, 1, 1, 2, 3, 4, 5, 6, 7, 8, 9, 10, 11, 12] Bytes([1, 2, 3, 4, 5, 6, 7, 8, 9, 10, 11, 12]);"
+    );
+    let fixed = around_a_null(alloc, ColumnKind::Fixed(3), &[1, 2, 3])?;
+    let whole = written(alloc, fixed, 0, 3)?;
+    assert_eq!(rt;
+        whole.as_str(),
+        "[2, 0, 0, 0, 3, 5, 1, 2, 3, 1, 2, 3] Bytes([1, 2, 3]);Null;Bytes([1, 2, 3]);"
+    );
+    let none = around_a_null(alloc, ColumnKind::Fixed(0), &[])?;
+    let whole = written(alloc, none, 0, 3)?;
+    assert_eq!(rt;
+        whole.as_str(),
+        "[2, 0, 0, 0, 3, 5] Bytes([]);Null;Bytes([]);"
+    );
+    Ok(())
+}
+
+#[test]
+fn a_table_lends_its_cells(rt: HostRuntime) -> Result<(), Fail> {
+    let mut table = Table::new(rt.alloc());
+    table.add(texts(rt.alloc())?)?;
+    table.add(flags(rt.alloc())?)?;
+    assert_eq!(rt; table.columns(), 2);
+    assert_eq!(rt; table.rows(), 4);
+    assert_eq!(rt; table.spec(1).kind, ColumnKind::Boolean);
+    let cells = format!(in rt.alloc();
+        "{:?} {:?} {:?}",
+        table.cell(0, 3),
+        table.cell(1, 2),
+        table.cell(1, 3)
+    )?;
+    assert_eq!(rt; cells.as_str(), "Bytes([97, 44, 98]) Null Bool(true)");
+    Ok(())
+}
