@@ -18,7 +18,7 @@ for name in ${names//|/ }; do
 done
 { grep -E "^($names):" "$top/crates.txt"; echo 'footer_bench: parquet_meta pme_base anyhow'; } > "$work/crates.txt"
 cat > "$bench/src/main.rt" <<'RT'
-// Times reading the footer in `footer.bin`, as often as there are words behind the program's name.
+// Times reading the footer in `footer.bin`, once for each of its words.
 #![tactic(auto)]
 
 use anyhow::{Result, anyhow};

@@ -1,12 +1,12 @@
 -- The command that a line is: nothing where its words are no line of the table.
-use Rattle.std.specs.Prelude.{ℕ, List, [], ◌∷◌, Option, Some, None, codes, option_map, if◌then◌else◌}
+use Rattle.std.specs.Prelude.{ℕ, Bool, List, [], ◌∷◌, Option, Some, None, codes, option_map, if◌then◌else◌}
 use Rattle.command_line.specs.declared.command.Command.{Command}
 use Rattle.command_line.specs.declared.command.Command.TheVariants as command
 use Rattle.command_line.specs.declared.verb.Verb.{Verb}
-use Rattle.command_line.specs.declared.verb.Verb.TheVariants.{Module, Thrift}
+use Rattle.command_line.specs.declared.verb.Verb.TheVariants.{Module, Thrift, Footer}
 use Rattle.command_line.specs.Verbs.{verb_of}
-use Rattle.command_line.specs.Options.{value_of, are_options}
-use Rattle.command_line.specs.Values.{key_of_hex, associated_data_of_hex}
+use Rattle.command_line.specs.Options.{value_of, has_flag, are_options}
+use Rattle.command_line.specs.Values.{key_of_hex, associated_data_of_hex, prefix_of_hex}
 
 -- each of three values, where all are there
 abbrev pub with_three : {A B C D : Type 0} → Option A → Option B → Option C → (A → B → C → Option D) → Option D
@@ -20,14 +20,28 @@ module_with key associated_data file =
 
 abbrev pub module_of : List (List ℕ) → Option Command
 module_of options =
-    with_three (value_of (codes "--key") options) (value_of (codes "--aad") options) (value_of (codes "--file") options) module_with
+    with_three (value_of Module (codes "--key") options) (value_of Module (codes "--aad") options) (value_of Module (codes "--file") options) module_with
 
 abbrev pub thrift_of : List (List ℕ) → Option Command
-thrift_of options = option_map command.Thrift (value_of (codes "--file") options)
+thrift_of options = option_map command.Thrift (value_of Thrift (codes "--file") options)
+
+-- a prefix that is supplied, or that none is; nothing where its text is no prefix
+abbrev pub prefix_with : Option (List ℕ) → Option (Option (List ℕ))
+prefix_with None = Some None
+prefix_with (Some text) = option_map Some (prefix_of_hex text)
+
+abbrev pub footer_with : Bool → List ℕ → List ℕ → Option (List ℕ) → Option Command
+footer_with gcm_only file keys prefix = option_map (λ p. command.Footer file keys p gcm_only) (prefix_with prefix)
+
+abbrev pub footer_of : List (List ℕ) → Option Command
+footer_of options =
+    with_three (value_of Footer (codes "--file") options) (value_of Footer (codes "--keys") options) (Some (value_of Footer (codes "--prefix") options))
+    (footer_with (has_flag Footer (codes "--gcm-only") options))
 
 abbrev pub command_by : Verb → List (List ℕ) → Option Command
 command_by Module options = module_of options
 command_by Thrift options = thrift_of options
+command_by Footer options = footer_of options
 
 abbrev pub command_with : Verb → List (List ℕ) → Option Command
 command_with verb options = if are_options verb options then command_by verb options else None

@@ -1,22 +1,35 @@
--- The words after the command: options in any order, each a name and the next word as its value, whatever
--- that word begins with.
-use Rattle.std.specs.Prelude.{ℕ, Bool, true, false, ◌&&◌, List, [], ◌∷◌, Option, Some, None, is_none, if◌then◌else◌}
+-- The words after the command: options and flags in any order. An option is a name and the next word as its value,
+-- whatever that word begins with; a flag is a name alone.
+use Rattle.std.specs.Prelude.{ℕ, Bool, true, false, ◌&&◌, ◌||◌, not, List, [], ◌∷◌, Option, Some, None, is_none, if◌then◌else◌}
 use Rattle.std.specs.Str.{bytes_eq}
 use Rattle.command_line.specs.declared.verb.Verb.{Verb}
-use Rattle.command_line.specs.Verbs.{takes}
+use Rattle.command_line.specs.Verbs.{takes, is_flag}
 
 -- the value of the option of this name, where it is there
-abbrev pub value_of : List ℕ → List (List ℕ) → Option (List ℕ)
-value_of name [] = None
-value_of name (first ∷ []) = None
-value_of name (first ∷ value ∷ rest) = if bytes_eq first name then Some value else value_of name rest
+abbrev pub value_of : Verb → List ℕ → List (List ℕ) → Option (List ℕ)
+value_of verb name [] = None
+value_of verb name (first ∷ []) = None
+value_of verb name (first ∷ value ∷ rest) =
+    if is_flag verb first then value_of verb name (value ∷ rest)
+    else if bytes_eq first name then Some value
+    else value_of verb name rest
+
+-- whether the flag of this name is there
+abbrev pub has_flag : Verb → List ℕ → List (List ℕ) → Bool
+has_flag verb name [] = false
+has_flag verb name (first ∷ []) = is_flag verb first && bytes_eq first name
+has_flag verb name (first ∷ value ∷ rest) =
+    if is_flag verb first then bytes_eq first name || has_flag verb name (value ∷ rest)
+    else has_flag verb name rest
 
 -- a name that the command takes and that doesn't come again
 unfoldable pub is_option : Verb → List ℕ → List (List ℕ) → Bool
-is_option verb name after = takes verb name && is_none (value_of name after)
+is_option verb name after = takes verb name && is_none (value_of verb name after)
 
--- each option is one of the command's, has a value, and comes once
+-- each is one of the command's and comes once, and each option has a value
 abbrev pub are_options : Verb → List (List ℕ) → Bool
 are_options verb [] = true
-are_options verb (first ∷ []) = false
-are_options verb (first ∷ value ∷ rest) = is_option verb first rest && are_options verb rest
+are_options verb (first ∷ []) = is_flag verb first
+are_options verb (first ∷ value ∷ rest) =
+    if is_flag verb first then not (has_flag verb first (value ∷ rest)) && are_options verb (value ∷ rest)
+    else is_option verb first rest && are_options verb rest

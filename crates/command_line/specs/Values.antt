@@ -22,3 +22,7 @@ key_of_hex text = where_it_is is_key (bytes_of_hex text)
 -- associated data has at most 4,096 bytes
 abbrev pub associated_data_of_hex : List ℕ → Option (List ℕ)
 associated_data_of_hex text = where_it_is (λ bytes. nat_le (length bytes) 4096) (bytes_of_hex text)
+
+-- a prefix of associated data has at most 1,024 bytes
+abbrev pub prefix_of_hex : List ℕ → Option (List ℕ)
+prefix_of_hex text = where_it_is (λ bytes. nat_le (length bytes) 1024) (bytes_of_hex text)

@@ -1,9 +1,11 @@
 ghost use Rattle.std.specs.Prelude.{◌≡◌, IfOk};
+ghost use Rattle.std.specs.Option.{option_copied};
 ghost use Rattle.command_line.specs.Commands as defined;
 
+use crate::aad_prefix::AadPrefix;
 use crate::associated_data::AssociatedData;
-use crate::options::{are_options, value_of};
-use crate::values::{associated_data_of_hex, key_of_hex};
+use crate::options::{are_options, has_flag, value_of};
+use crate::values::{associated_data_of_hex, key_of_hex, prefix_of_hex};
 use crate::verb::{Verb, verb_of};
 use aes_block::AesKey;
 use pme_base::{OutOfMemory, Text, Words};
@@ -21,6 +23,14 @@ pub enum Command {
     /// Print the struct at the front of `file` as text.
     Thrift {
         file: Text,
+    },
+    /// Print what the tail of `file` says, whose keys the keys file `keys` names. `prefix` is the prefix of the
+    /// associated data where one is supplied; with `gcm_only` the algorithm must authenticate every page.
+    Footer {
+        file: Text,
+        keys: Text,
+        prefix: Option<AadPrefix>,
+        gcm_only: bool,
     },
 }
 
@@ -46,19 +56,20 @@ fn command_with(alloc: Global, verb: Verb, options: &[Text]) -> Result<Option<Co
     match verb {
         Verb::Module => module_of(alloc, options),
         Verb::Thrift => thrift_of(alloc, options),
+        Verb::Footer => footer_of(alloc, options),
     }
 }
 
 fn module_of(alloc: Global, options: &[Text]) -> Result<Option<Command>, OutOfMemory>
     ensures { IfOk result (λ command. command ≡ defined.module_of options.now) }
 {
-    let Some(key) = value_of("--key", options) else {
+    let Some(key) = value_of(Verb::Module, "--key", options) else {
         return Ok(None);
     };
-    let Some(data) = value_of("--aad", options) else {
+    let Some(data) = value_of(Verb::Module, "--aad", options) else {
         return Ok(None);
     };
-    let Some(file) = value_of("--file", options) else {
+    let Some(file) = value_of(Verb::Module, "--file", options) else {
         return Ok(None);
     };
     module_with(alloc, key, data, file)
@@ -89,9 +100,58 @@ fn module_with(
 fn thrift_of(alloc: Global, options: &[Text]) -> Result<Option<Command>, OutOfMemory>
     ensures { IfOk result (λ command. command ≡ defined.thrift_of options.now) }
 {
-    let Some(file) = value_of("--file", options) else {
+    let Some(file) = value_of(Verb::Thrift, "--file", options) else {
         return Ok(None);
     };
     let file = Text::copy_of(alloc, file)?;
     Ok(Some(Command::Thrift { file }))
+}
+
+fn footer_of(alloc: Global, options: &[Text]) -> Result<Option<Command>, OutOfMemory>
+    ensures { IfOk result (λ command. command ≡ defined.footer_of options.now) }
+{
+    let Some(file) = value_of(Verb::Footer, "--file", options) else {
+        return Ok(None);
+    };
+    let Some(keys) = value_of(Verb::Footer, "--keys", options) else {
+        return Ok(None);
+    };
+    let prefix = value_of(Verb::Footer, "--prefix", options);
+    let gcm_only = has_flag(Verb::Footer, "--gcm-only", options);
+    footer_with(alloc, gcm_only, file, keys, prefix)
+}
+
+fn footer_with(
+    alloc: Global,
+    gcm_only: bool,
+    file: &str,
+    keys: &str,
+    prefix: Option<&str>,
+) -> Result<Option<Command>, OutOfMemory>
+    ensures { IfOk result (λ command. command ≡ defined.footer_with gcm_only file.now keys.now (option_copied prefix.entry)) }
+{
+    let Some(prefix) = prefix_with(alloc, prefix)? else {
+        return Ok(None);
+    };
+    let file = Text::copy_of(alloc, file)?;
+    let keys = Text::copy_of(alloc, keys)?;
+    Ok(Some(Command::Footer {
+        file,
+        keys,
+        prefix,
+        gcm_only,
+    }))
+}
+
+/// The prefix that is supplied, or that none is; None where its text is no prefix.
+fn prefix_with(alloc: Global, text: Option<&str>) -> Result<Option<Option<AadPrefix>>, OutOfMemory>
+    ensures { IfOk result (λ prefix. prefix ≡ defined.prefix_with (option_copied text.entry)) }
+{
+    match text {
+        None => Ok(Some(None)),
+        Some(text) => match prefix_of_hex(alloc, text)? {
+            None => Ok(None),
+            Some(prefix) => Ok(Some(Some(prefix))),
+        },
+    }
 }

@@ -1,11 +1,13 @@
-// The words of a command line: the table of commands with their options, and the command that a line is.
+// The words of a command line: the table of commands with their options and flags, and the command that a line is.
 #![tactic(auto)]
 
+mod aad_prefix;
 mod associated_data;
 mod command;
 mod options;
 mod values;
 mod verb;
 
+pub use aad_prefix::AadPrefix;
 pub use associated_data::AssociatedData;
 pub use command::{Command, command_of};

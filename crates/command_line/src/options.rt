@@ -2,15 +2,22 @@ ghost use Rattle.std.specs.Prelude.{◌≡◌};
 ghost use Rattle.std.specs.Option.{option_copied};
 ghost use Rattle.command_line.specs.Options as defined;
 
-use crate::verb::{Verb, takes};
+use crate::verb::{Verb, is_flag, takes};
 use pme_base::Text;
 
 /// The value of the option `name`: the word after its first naming.
-pub fn value_of<'a>(name: &str, options: &'a [Text]) -> Option<&'a str>
-    ensures { option_copied result ≡ defined.value_of name.now options.now }
+pub fn value_of<'a>(verb: Verb, name: &str, options: &'a [Text]) -> Option<&'a str>
+    ensures { option_copied result ≡ defined.value_of verb name.now options.now }
 {
     let mut rest = options;
-    while let [first, value, after @ ..] = rest {
+    while let [first, after @ ..] = rest {
+        if is_flag(verb, first.as_str()) {
+            rest = after;
+            continue;
+        }
+        let [value, after @ ..] = after else {
+            return None;
+        };
         if first.as_str() == name {
             return Some(value.as_str());
         }
@@ -19,18 +26,50 @@ pub fn value_of<'a>(name: &str, options: &'a [Text]) -> Option<&'a str>
     None
 }
 
-/// Whether the words are options of the command, each named once and followed by its value.
+/// Whether the flag `name` is there.
+pub fn has_flag(verb: Verb, name: &str, options: &[Text]) -> bool
+    ensures { result ≡ defined.has_flag verb name.now options.now }
+{
+    let mut rest = options;
+    while let [first, after @ ..] = rest {
+        if is_flag(verb, first.as_str()) {
+            if first.as_str() == name {
+                return true;
+            }
+            rest = after;
+            continue;
+        }
+        let [_value, after @ ..] = after else {
+            return false;
+        };
+        rest = after;
+    }
+    false
+}
+
+#[tactic(auto, using(crate::proofs::Flags::flag_again, crate::proofs::Flags::flag_once))]
+/// Whether the words are options and flags of the command, each named once, and each option followed by its value.
 pub fn are_options(verb: Verb, options: &[Text]) -> bool
     ensures { result ≡ defined.are_options verb options.now }
 {
     let mut rest = options;
-    while let [first, _value, after @ ..] = rest {
+    while let [first, after @ ..] = rest {
+        if is_flag(verb, first.as_str()) {
+            if has_flag(verb, first.as_str(), after) {
+                return false;
+            }
+            rest = after;
+            continue;
+        }
+        let [_value, after @ ..] = after else {
+            return false; // its value is missing
+        };
         if !is_option(verb, first.as_str(), after) {
             return false;
         }
         rest = after;
     }
-    rest.is_empty()
+    true
 }
 
 #[tactic(auto, unfolding(crate::specs::Options::is_option))]
@@ -40,5 +79,5 @@ fn is_option(verb: Verb, name: &str, after: &[Text]) -> bool
     if !takes(verb, name) {
         return false;
     }
-    value_of(name, after).is_none()
+    value_of(verb, name, after).is_none()
 }

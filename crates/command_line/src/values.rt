@@ -1,6 +1,7 @@
 ghost use Rattle.std.specs.Prelude.{◌≡◌, IfOk};
 ghost use Rattle.command_line.specs.Values as defined;
 
+use crate::aad_prefix::AadPrefix;
 use crate::associated_data::AssociatedData;
 use aes_block::AesKey;
 use hex::FromHexError;
@@ -41,5 +42,15 @@ pub fn associated_data_of_hex(
     match bytes_of_hex(alloc, text)? {
         None => Ok(None),
         Some(bytes) => Ok(AssociatedData::new(bytes)),
+    }
+}
+
+/// A prefix of associated data, of at most 1,024 bytes in hex.
+pub fn prefix_of_hex(alloc: Global, text: &str) -> Result<Option<AadPrefix>, OutOfMemory>
+    ensures { IfOk result (λ bytes. bytes ≡ defined.prefix_of_hex text.now) }
+{
+    match bytes_of_hex(alloc, text)? {
+        None => Ok(None),
+        Some(bytes) => Ok(AadPrefix::new(bytes)),
     }
 }

@@ -6,6 +6,7 @@ ghost use Rattle.command_line.specs.Verbs as defined;
 pub enum Verb {
     Module,
     Thrift,
+    Footer,
 }
 
 /// The command that `word` names.
@@ -15,11 +16,12 @@ pub fn verb_of(word: &str) -> Option<Verb>
     match word {
         "module" => Some(Verb::Module),
         "thrift" => Some(Verb::Thrift),
+        "footer" => Some(Verb::Footer),
         _ => None,
     }
 }
 
-/// Whether the command has an option of this name.
+/// Whether the command has an option of this name, which a value follows.
 pub fn takes(verb: Verb, name: &str) -> bool
     ensures { result ≡ defined.takes verb name.now }
 {
@@ -34,5 +36,25 @@ pub fn takes(verb: Verb, name: &str) -> bool
             name == "--file"
         }
         Verb::Thrift => name == "--file",
+        Verb::Footer => {
+            if name == "--file" {
+                return true;
+            }
+            if name == "--keys" {
+                return true;
+            }
+            name == "--prefix"
+        }
+    }
+}
+
+/// Whether the command has a flag of this name, which stands alone.
+pub fn is_flag(verb: Verb, name: &str) -> bool
+    ensures { result ≡ defined.is_flag verb name.now }
+{
+    match verb {
+        Verb::Module => false,
+        Verb::Thrift => false,
+        Verb::Footer => name == "--gcm-only",
     }
 }

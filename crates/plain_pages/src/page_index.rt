@@ -50,7 +50,7 @@ impl PageIndex {
     }
 }
 
-/// The same, by what an index keeps.
+/// The same index, told by what it keeps.
 #[tactic(auto, unfolding(crate::specs::PageInside::index_read), using(crate::proofs::PageLemmas::cell_counts))]
 fn read_index(
     alloc: Global,

@@ -8,6 +8,7 @@ use Rattle.pme_base.specs.Steps.{◌>>=◌}
 use Rattle.crypto_module.specs.Modules.{IsGcm}
 use Rattle.crypto_module.proofs.Sealed.{opened_if_held}
 use Rattle.pme_cli.specs.declared.stop.Stop.{Stop}
+use Rattle.pme_cli.specs.Stops.{about}
 use Rattle.pme_cli.specs.Printing.{hex_line}
 use Rattle.pme_cli.specs.SealedFile.{loose, plaintext_limit, opened_file}
 use Rattle.pme_base.specs.declared.refusal.Cause.{Cause}
@@ -18,7 +19,7 @@ use Rattle.pme_cli.specs.ModuleCommand.{ModuleCompletes, ModuleDone, IsSealedTex
 -- a module whose text was printed is done
 pub module_done : (key aad name : List ℕ) (told : Option Published) (before after : Option (List ℕ)) (text : Result (List ℕ) Refusal) (outcome : Result Unit Stop)
     → IfOk text (λ t. IfSome told (λ files. IsSealedText key aad (get files name) t))
-    → OnOk outcome (IsOkAnd text (λ t. after ≡ followed_by t before))
+    → OnOk outcome (IsOkAnd (about name text) (λ t. after ≡ followed_by t before))
     → OnOk outcome (IfSome told (λ files. ModuleDone key aad (get files name) before after))
 module_done key aad name told before after text (Err stop) sealed printed = tt
 module_done key aad name None before after text (Ok _) sealed printed = tt
@@ -36,11 +37,11 @@ opens key aad plain (Some bytes) h = opened_if_held key aad plain loose 0 plaint
 
 -- so the text of such a file is printed, but for a fault or want of memory
 pub module_completes : (key aad name : List ℕ) (told : Option Published) (Fault : Type 0) (outcome : Result Unit Stop)
-    → TextCompletes (λ files. module_text key aad (get files name)) told Fault outcome
+    → TextCompletes (λ files. about name (module_text key aad (get files name))) told Fault outcome
     → ModuleCompletes key aad name told Fault outcome
 module_completes key aad name None Fault outcome text = tt
 module_completes key aad name (Some files) Fault outcome text = λ plain sealed.
-    text (hex_line plain) (ap (λ (opened : Result (List ℕ) Refusal). opened >>= (λ p. Ok (hex_line p))) (opens key aad plain (get files name) sealed))
+    text (hex_line plain) (ap (λ (opened : Result (List ℕ) Refusal). about name (opened >>= (λ p. Ok (hex_line p)))) (opens key aad plain (get files name) sealed))
 
 -- what opening ends with is among what the command ends with
 pub opening_ends : (text : Result (List ℕ) Refusal) → caused_by is_opening_cause text ≡ true → caused_by is_module_cause text ≡ true

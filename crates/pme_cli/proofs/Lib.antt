@@ -4,3 +4,5 @@ pub mod Openings
 pub mod TextAnswers
 pub mod Answered
 pub mod Structs
+pub mod Tails
+pub mod Columns

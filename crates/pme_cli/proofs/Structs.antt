@@ -14,6 +14,7 @@ use Rattle.thrift_compact.specs.Tree.{Tree}
 use Rattle.thrift_compact.specs.Whole.{told}
 use Rattle.thrift_compact.proofs.WholeStruct.{whole_read}
 use Rattle.pme_cli.specs.declared.stop.Stop.{Stop}
+use Rattle.pme_cli.specs.Stops.{about}
 use Rattle.pme_cli.specs.SmallFile.{small_bytes, small_size}
 use Rattle.pme_cli.specs.TextCommand.{TextCompletes, caused_by}
 use Rattle.pme_cli.specs.ThriftCommand.{Holds, IsTextOf, IsFileText, ThriftDone, ThriftCompletes, tree_text, text_of_answer, struct_text, thrift_text, is_text_cause, is_thrift_cause}
@@ -50,7 +51,7 @@ file_text (Some files) name bytes (Ok t) answer held = small_file (get files nam
 -- the text was printed
 pub thrift_done : (name : List ℕ) (told : Option Published) (before after : Option (List ℕ)) (text : Result (List ℕ) Refusal) (outcome : Result Unit Stop)
     → IfOk text (λ t. IfSome told (λ files. IsFileText (get files name) t))
-    → OnOk outcome (IsOkAnd text (λ t. after ≡ followed_by t before))
+    → OnOk outcome (IsOkAnd (about name text) (λ t. after ≡ followed_by t before))
     → OnOk outcome (IfSome told (λ files. ThriftDone (get files name) before after))
 thrift_done name told before after text (Err stop) held printed = tt
 thrift_done name None before after text (Ok _) held printed = tt
@@ -79,10 +80,10 @@ has_text (Some bytes) h =
     not_above n h = grind arith
 
 pub thrift_completes : (name : List ℕ) (told : Option Published) (Fault : Type 0) (outcome : Result Unit Stop)
-    → TextCompletes (λ files. thrift_text (get files name)) told Fault outcome
+    → TextCompletes (λ files. about name (thrift_text (get files name))) told Fault outcome
     → ThriftCompletes name told Fault outcome
 thrift_completes name None Fault outcome text = tt
-thrift_completes name (Some files) Fault outcome text = λ held. let there = has_text (get files name) held in text there.0 there.1
+thrift_completes name (Some files) Fault outcome text = λ held. let there = has_text (get files name) held in text there.0 (ap (about name) there.1)
 
 -- what making the text ends with is among what the command ends with
 pub text_ends : (text : Result (List ℕ) Refusal) → caused_by is_text_cause text ≡ true → caused_by is_thrift_cause text ≡ true

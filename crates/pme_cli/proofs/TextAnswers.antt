@@ -3,65 +3,63 @@ use Rattle.std.proofs.Common.{◌≡◌, ℕ, Bool, true, false, List, Option, S
 use Rattle.std.proofs.lemmas.Bool.{false≢true}
 use Rattle.pme_base.specs.declared.refusal.Cause.{Cause}
 use Rattle.pme_base.specs.declared.refusal.Cause.TheVariants.{OutOfMemory, ReadFault, WriteFault}
-use Rattle.pme_base.specs.declared.refusal.Refusal.{Refusal}
 use Rattle.pme_base.specs.Outside.{Published, followed_by, PutsFront}
 use Rattle.pme_base.specs.Refusals.{is_free}
-use Rattle.pme_base.specs.Steps.{Answers}
 use Rattle.pme_base.specs.Counts.{Rose}
 use Rattle.pme_cli.specs.declared.stop.Stop.{Stop}
-use Rattle.pme_cli.specs.Stops.{stop_of}
+use Rattle.pme_cli.specs.Stops.{EndsAs}
 use Rattle.pme_cli.specs.Outcomes.{StopsReading, StopsWriting}
 use Rattle.pme_cli.specs.Printing.{is_printing_cause}
 use Rattle.pme_cli.specs.TextCommand.{TextAnswered, TextCompletes, Printed, PrintsFront, ended, stopped_by}
 use Rattle.pme_cli.proofs.Cases.{printing_is_free}
 use Rattle.pme_cli.proofs.Prints.{puts_nothing}
 
-prints_nothing : (text : Result (List ℕ) Refusal) (out : Option (List ℕ)) → PrintsFront text out out
+prints_nothing : (text : Result (List ℕ) Stop) (out : Option (List ℕ)) → PrintsFront text out out
 prints_nothing (Ok t) out = puts_nothing t out
-prints_nothing (Err refusal) out = refl
+prints_nothing (Err stop) out = refl
 
 -- there was no text
-pub no_text : (name : List ℕ) (text : Published → Result (List ℕ) Refusal) (told : Option Published) (out : Option (List ℕ)) (refusal : Refusal)
-    → IfSome told (λ files. Answers {T = List ℕ} (Err refusal) (text files))
-    → TextAnswered name text told out out (Err (stop_of refusal name))
-no_text name text None out refusal h = record { answer = tt; printed = tt; kept = λ _. refl; part = tt }
-no_text name text (Some files) out refusal h = record {
-  answer = λ free. ap (ended name) (h free);
+pub no_text : (text : Published → Result (List ℕ) Stop) (told : Option Published) (out : Option (List ℕ)) (stop : Stop)
+    → IfSome told (λ files. EndsAs {T = List ℕ} (Err stop) (text files))
+    → TextAnswered text told out out (Err stop)
+no_text text None out stop h = record { answer = tt; printed = tt; kept = λ _. refl; part = tt }
+no_text text (Some files) out stop h = record {
+  answer = λ free. ap ended (h free);
   printed = tt;
   kept = λ _. refl;
   part = prints_nothing (text files) out;
 }
 
 -- the text was printed
-pub text_printed : (name : List ℕ) (text : Published → Result (List ℕ) Refusal) (told : Option Published) (before after : Option (List ℕ)) (t : List ℕ)
-    → IfSome told (λ files. Answers (Ok t) (text files))
+pub text_printed : (text : Published → Result (List ℕ) Stop) (told : Option Published) (before after : Option (List ℕ)) (t : List ℕ)
+    → IfSome told (λ files. EndsAs (Ok t) (text files))
     → after ≡ followed_by t before
-    → TextAnswered name text told before after (Ok tt)
-text_printed name text None before after t h e = record { answer = tt; printed = tt; kept = tt; part = tt }
-text_printed name text (Some files) before after t h e = record {
-  answer = λ free. ap (ended name) (h refl);
-  printed = subst (λ (r : Result (List ℕ) Refusal). Printed r before after) (h refl) e;
+    → TextAnswered text told before after (Ok tt)
+text_printed text None before after t h e = record { answer = tt; printed = tt; kept = tt; part = tt }
+text_printed text (Some files) before after t h e = record {
+  answer = λ free. ap ended (h refl);
+  printed = subst (λ (r : Result (List ℕ) Stop). Printed r before after) (h refl) e;
   kept = tt;
   part = tt;
 }
 
 -- printing it failed
-pub text_unprinted : (name : List ℕ) (text : Published → Result (List ℕ) Refusal) (told : Option Published) (before after : Option (List ℕ)) (t : List ℕ) (refusal : Refusal)
-    → IfSome told (λ files. Answers (Ok t) (text files))
-    → is_printing_cause refusal.cause ≡ true
+pub text_unprinted : (text : Published → Result (List ℕ) Stop) (told : Option Published) (before after : Option (List ℕ)) (t : List ℕ) (stop : Stop)
+    → IfSome told (λ files. EndsAs (Ok t) (text files))
+    → is_printing_cause stop.refusal.cause ≡ true
     → PutsFront t before after
-    → TextAnswered name text told before after (Err (stop_of refusal name))
-text_unprinted name text None before after t refusal h printing part = record {
+    → TextAnswered text told before after (Err stop)
+text_unprinted text None before after t stop h printing part = record {
   answer = tt;
   printed = tt;
   kept = λ other. absurd (false≢true (sym other ∙ printing));
   part = tt;
 }
-text_unprinted name text (Some files) before after t refusal h printing part = record {
-  answer = λ free. absurd (false≢true (sym free ∙ printing_is_free refusal.cause printing));
+text_unprinted text (Some files) before after t stop h printing part = record {
+  answer = λ free. absurd (false≢true (sym free ∙ printing_is_free stop.refusal.cause printing));
   printed = tt;
   kept = λ other. absurd (false≢true (sym other ∙ printing));
-  part = subst (λ (r : Result (List ℕ) Refusal). PrintsFront r before after) (h refl) part;
+  part = subst (λ (r : Result (List ℕ) Stop). PrintsFront r before after) (h refl) part;
 }
 
 -- of the causes of a command that draws nothing, those that may come at any step are two faults and want of memory
@@ -69,15 +67,15 @@ abbrev pub OnlyReads : (Cause → Bool) → Type 0
 OnlyReads is_cause = (cause : Cause) → is_free cause ≡ true → is_cause cause ≡ true → (cause ≡ ReadFault → ⊥) → (cause ≡ WriteFault → ⊥) → cause ≡ OutOfMemory
 
 -- so the command ends well with a text that is there, but for a fault or want of memory
-pub text_completes : (name : List ℕ) (text : Published → Result (List ℕ) Refusal) (told : Option Published) (before after : Option (List ℕ)) (f g u v : ℕ) (outcome : Result Unit Stop)
-    (is_cause : Cause → Bool) → OnlyReads is_cause → TextAnswered name text told before after outcome → StopsReading f g outcome
+pub text_completes : (text : Published → Result (List ℕ) Stop) (told : Option Published) (before after : Option (List ℕ)) (f g u v : ℕ) (outcome : Result Unit Stop)
+    (is_cause : Cause → Bool) → OnlyReads is_cause → TextAnswered text told before after outcome → StopsReading f g outcome
     → StopsWriting u v outcome → stopped_by is_cause outcome ≡ true
     → TextCompletes text told (Rose f g ⊎ Rose u v) outcome
-text_completes name text None before after f g u v outcome is_cause only a r w m = tt
-text_completes name text (Some files) before after f g u v (Ok _) is_cause only a r w m = λ t there calm. tt
-text_completes name text (Some files) before after f g u v (Err stop) is_cause only a r w m = λ t there calm.
+text_completes text None before after f g u v outcome is_cause only a r w m = tt
+text_completes text (Some files) before after f g u v (Ok _) is_cause only a r w m = λ t there calm. tt
+text_completes text (Some files) before after f g u v (Err stop) is_cause only a r w m = λ t there calm.
     only stop.refusal.cause (must_be_free (is_free stop.refusal.cause) refl t there) m (λ e. calm (inl (r.failed e))) (λ e. calm (inr (w.failed e)))
   where
     must_be_free : (b : Bool) → is_free stop.refusal.cause ≡ b → (t : List ℕ) → text files ≡ Ok t → is_free stop.refusal.cause ≡ true
     must_be_free true e t there = e
-    must_be_free false e t there = let same : Err stop ≡ Ok tt = a.answer e ∙ ap (ended name) there in cc
+    must_be_free false e t there = let same : Err stop ≡ Ok tt = a.answer e ∙ ap ended there in cc

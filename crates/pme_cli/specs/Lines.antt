@@ -1,12 +1,12 @@
 -- What a run owes its words: Usage exactly where they are no line, and what the command that they are says.
 use Rattle.std.specs.Prelude.{◌≡◌, ℕ, Bool, true, false, List, Option, Some, None, Result, Ok, Err}
 use Rattle.command_line.specs.declared.command.Command.{Command}
-use Rattle.command_line.specs.declared.command.Command.TheVariants.{Module, Thrift}
+use Rattle.command_line.specs.declared.command.Command.TheVariants.{Module, Thrift, Footer}
 use Rattle.pme_base.specs.declared.refusal.Cause.{Cause}
-use Rattle.pme_base.specs.declared.refusal.Cause.TheVariants.{Usage, BadThrift, OutOfMemory}
+use Rattle.pme_base.specs.declared.refusal.Cause.TheVariants.{Usage, OutOfMemory}
 use Rattle.pme_cli.specs.declared.stop.Stop.{Stop}
 use Rattle.pme_cli.specs.Stops.{plain_stop}
-use Rattle.pme_cli.specs.ModuleCommand.{is_module_cause}
+use Rattle.pme_cli.specs.FooterCommand.{FooterWords, footer_words, is_footer_cause}
 
 -- what holds of the key, the associated data and the file of `module`
 abbrev pub IfModule : Option Command → (List ℕ → List ℕ → List ℕ → Type 0) → Type 0
@@ -19,6 +19,20 @@ abbrev pub IfThrift : Option Command → (List ℕ → Type 0) → Type 0
 IfThrift None P = Unit {0}
 IfThrift (Some (Thrift file)) P = P file
 IfThrift (Some _) P = Unit {0}
+
+-- what holds of the words of `footer`
+abbrev pub IfFooter : Option Command → (FooterWords → Type 0) → Type 0
+IfFooter None P = Unit {0}
+IfFooter (Some (Footer file keys prefix gcm_only)) P = P (footer_words file keys prefix gcm_only)
+IfFooter (Some _) P = Unit {0}
+
+-- the most bytes that a command is given by its files: a module of 16,777,216 bytes of plaintext, a small input, or
+-- both the keys file and the ends of the data file; words that are no line read nothing
+abbrev pub given_limit : Option Command → ℕ
+given_limit None = 0
+given_limit (Some (Module key associated_data file)) = 16777248
+given_limit (Some (Thrift file)) = 16777216
+given_limit (Some (Footer file keys prefix gcm_only)) = 33620032
 
 abbrev pub is_usage_cause : Cause → Bool
 is_usage_cause Usage = true
@@ -44,5 +58,4 @@ UsageExactly (Some command) outcome = is_usage outcome ≡ false
 -- the causes by which a run can end
 abbrev pub is_outcome_cause : Cause → Bool
 is_outcome_cause Usage = true
-is_outcome_cause BadThrift = true
-is_outcome_cause cause = is_module_cause cause
+is_outcome_cause cause = is_footer_cause cause

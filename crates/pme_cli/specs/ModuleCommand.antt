@@ -8,6 +8,7 @@ use Rattle.pme_base.specs.Outside.{Published, followed_by}
 use Rattle.pme_base.specs.Steps.{◌>>=◌}
 use Rattle.crypto_module.specs.Modules.{IsGcm}
 use Rattle.pme_cli.specs.declared.stop.Stop.{Stop}
+use Rattle.pme_cli.specs.Stops.{about}
 use Rattle.pme_cli.specs.Printing.{hex_line}
 use Rattle.pme_cli.specs.TextCommand.{TextAnswered}
 use Rattle.pme_cli.specs.SealedFile.{plaintext_limit, opened_file, is_sealed_cause}
@@ -38,7 +39,7 @@ IsSealedText key aad file text = (plain : List ℕ) × (text ≡ hex_line plain)
 
 -- what the command says of the files that are told, and of what was printed before and after
 pub record ModuleAnswered (key aad name : List ℕ) (told : Option Published) (before after : Option (List ℕ)) (outcome : Result Unit Stop) : Type 0 where
-  pub answered : TextAnswered name (λ files. module_text key aad (get files name)) told before after outcome
+  pub answered : TextAnswered (λ files. about name (module_text key aad (get files name))) told before after outcome
   pub done : OnOk outcome (IfSome told (λ files. ModuleDone key aad (get files name) before after))
 
 -- a file that is told and wholly a module is opened, where no fault comes from outside and memory suffices

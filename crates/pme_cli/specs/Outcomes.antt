@@ -23,7 +23,7 @@ last_line (Ok _) = []
 last_line (Err stop) = refusal_line stop.refusal stop.subject
 
 -- a fault of reading comes only where the count of faults of the files rose
-pub record StopsReading (before now : ℕ) (outcome : Result Unit Stop) : Type 0 where
+pub record StopsReading {T : Type 0} (before now : ℕ) (outcome : Result T Stop) : Type 0 where
   pub later : before ≤ now
   pub failed : IfErr outcome (λ stop. stop.refusal.cause ≡ cause_of.ReadFault → Rose before now)
 

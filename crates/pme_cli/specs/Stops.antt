@@ -1,5 +1,5 @@
 -- Why a command stopped: a refusal, and the file that it is about.
-use Rattle.std.specs.Prelude.{ℕ, Bool, false, List, [], Result, Ok, Err}
+use Rattle.std.specs.Prelude.{◌≡◌, ℕ, Bool, false, List, [], Result, Ok, Err}
 use Rattle.pme_base.specs.declared.refusal.Cause.{Cause}
 use Rattle.pme_base.specs.declared.refusal.Refusal.{Refusal}
 use Rattle.pme_base.specs.Refusals.{plain_refusal, is_free}
@@ -30,3 +30,7 @@ about name (Err refusal) = Err (stop_of refusal name)
 abbrev pub is_free_outcome : {T : Type 0} → Result T Stop → Bool
 is_free_outcome (Ok _) = false
 is_free_outcome (Err stop) = is_free stop.refusal.cause
+
+-- it ends as is defined, unless by such a cause
+abbrev pub EndsAs : {T : Type 0} → Result T Stop → Result T Stop → Type 0
+EndsAs outcome defined = is_free_outcome outcome ≡ false → outcome ≡ defined

@@ -17,6 +17,7 @@ use Rattle.thrift_compact.specs.Grammar.{Spells}
 use Rattle.thrift_compact.specs.Text.{shown}
 use Rattle.thrift_compact.specs.Whole.{told}
 use Rattle.pme_cli.specs.declared.stop.Stop.{Stop}
+use Rattle.pme_cli.specs.Stops.{about}
 use Rattle.pme_cli.specs.SmallFile.{whole_file, small_limit, small_bytes, is_small_cause}
 use Rattle.pme_cli.specs.TextCommand.{TextAnswered}
 
@@ -73,7 +74,7 @@ ThriftDone file before after =
 
 -- what the command says of the files that are told, and of what was printed before and after
 pub record ThriftAnswered (name : List ℕ) (told : Option Published) (before after : Option (List ℕ)) (outcome : Result Unit Stop) : Type 0 where
-  pub answered : TextAnswered name (λ files. thrift_text (get files name)) told before after outcome
+  pub answered : TextAnswered (λ files. about name (thrift_text (get files name))) told before after outcome
   pub done : OnOk outcome (IfSome told (λ files. ThriftDone (get files name) before after))
 
 -- a small file that is told and begins with a struct is printed, where no fault comes from outside and memory suffices

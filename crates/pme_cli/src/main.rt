@@ -2,6 +2,9 @@
 #![tactic(auto)]
 
 mod commands;
+#[cfg(test)]
+mod footer_tests;
+mod keys_file;
 mod opened;
 mod printing;
 mod reading;
@@ -9,6 +12,7 @@ mod run;
 mod sealed_file;
 mod small_file;
 mod stop;
+mod tail_text;
 #[cfg(test)]
 mod tests;
 

@@ -2,14 +2,15 @@ ghost use Rattle.std.specs.Prelude.{◌≡◌, ℕ, List, Bool, Option, Result, 
 ghost use Rattle.pme_base.specs.declared.refusal.Cause.{Cause};
 ghost use Rattle.pme_base.specs.declared.refusal.Refusal.{Refusal};
 ghost use Rattle.pme_base.specs.Outside.{Published, PutsFront, followed_by};
-ghost use Rattle.pme_base.specs.Steps.{ReadsFail, WritesFail};
+ghost use Rattle.pme_base.specs.Steps.{WritesFail};
+ghost use Rattle.pme_cli.specs.declared.stop.Stop.{Stop};
 ghost use Rattle.pme_cli.specs.Outcomes.{StopsReading, StopsWriting};
 ghost use Rattle.pme_cli.specs.Printing.{is_printing_result};
 ghost use Rattle.pme_cli.specs.Printing as defined;
-ghost use Rattle.pme_cli.specs.TextCommand.{AnswersText, TextAnswered, IsQuietWriter, EndsPrinting, caused_by, stopped_by};
+ghost use Rattle.pme_cli.specs.TextCommand.{GivesText, TextAnswered, IsQuietWriter, EndsPrinting, stopped_by};
 
-use crate::stop::{Stop, stop_of};
-use pme_base::{Bytes, Cause, OutOfMemory, Refusal, Sink, Text, Trouble, plain_refusal};
+use crate::stop::{Stop, plain_stop};
+use pme_base::{Bytes, Cause, OutOfMemory, Refusal, Sink, Trouble, plain_refusal};
 use std::alloc::Global;
 
 /// Writes all of `bytes`; where that fails, a front of them may stand.
@@ -40,24 +41,23 @@ pub fn hex_line(alloc: Global, bytes: &[u8]) -> Result<Bytes, OutOfMemory>
     Ok(Bytes::from_vec(line))
 }
 
-/// Ends a command that prints one text: prints it, or stops by what refused it, which is about the file `name`.
+/// Ends a command that prints one text: prints it, or stops by what kept it from the text.
 pub fn print_text<O: Sink>(
     alloc: Global,
-    text: Result<Bytes, Refusal>,
-    name: Text,
+    text: Result<Bytes, Stop>,
     out: &mut O,
 ) -> Result<(), Stop>
-    ensures answered { (told : Option Published) (defined : Published → Result (List ℕ) Refusal) → AnswersText text defined told → TextAnswered name defined told (O.written out.old) (O.written out.new) result }
+    ensures answered { (told : Option Published) (defined : Published → Result (List ℕ) Stop) → GivesText text defined told → TextAnswered defined told (O.written out.old) (O.written out.new) result }
     ensures printed { OnOk result (IsOkAnd text (λ t. O.written out.new ≡ followed_by t (O.written out.old))) }
-    ensures reads { (before now : ℕ) → ReadsFail before now text → StopsReading before now result }
+    ensures reads { (before now : ℕ) → StopsReading before now text → StopsReading before now result }
     ensures writes { IsQuietWriter text → StopsWriting (O.faults out.old) (O.faults out.new) result }
-    ensures causes { (is_cause : Cause → Bool) → EndsPrinting is_cause → caused_by is_cause text ≡ true → stopped_by is_cause result ≡ true }
+    ensures causes { (is_cause : Cause → Bool) → EndsPrinting is_cause → stopped_by is_cause text ≡ true → stopped_by is_cause result ≡ true }
 {
     match text {
         Ok(text) => match print(text.as_slice(), out) {
             Ok(()) => Ok(()),
-            Err(refusal) => Err(stop_of(alloc, refusal, name)),
+            Err(refusal) => Err(plain_stop(alloc, refusal.cause)),
         },
-        Err(refusal) => Err(stop_of(alloc, refusal, name)),
+        Err(stop) => Err(stop),
     }
 }

@@ -11,7 +11,9 @@ ghost use Rattle.pme_cli.specs.SealedFile.{sealed_bytes};
 ghost use Rattle.pme_cli.specs.ModuleCommand.{ModuleAnswered, ModuleCompletes};
 ghost use Rattle.pme_cli.specs.SmallFile.{small_bytes};
 ghost use Rattle.pme_cli.specs.ThriftCommand.{ThriftAnswered, ThriftCompletes};
-ghost use Rattle.pme_cli.specs.Lines.{IfModule, IfThrift, UsageExactly, is_outcome_cause, is_usage};
+ghost use Rattle.pme_cli.specs.KeysInput.{loaded_keys};
+ghost use Rattle.pme_cli.specs.FooterCommand.{FooterAnswered, FooterCompletes};
+ghost use Rattle.pme_cli.specs.Lines.{IfModule, IfThrift, IfFooter, UsageExactly, given_limit, is_outcome_cause, is_usage};
 ghost use Rattle.pme_cli.specs.TextCommand.{stopped_by};
 
 use crate::commands;
@@ -53,10 +55,13 @@ pub fn run<F: Files, N: Random, O: Sink, E: Sink>(
     ensures module_complete { IfModule (line.command_of words.now) (λ key aad file. ModuleCompletes key aad file (F.published files.old) (Rose (F.faults files.old) (F.faults files.new) ⊎ Rose (O.faults out.old) (O.faults out.new)) (outcome_of result.refusal result.subject)) }
     ensures thrift { IfThrift (line.command_of words.now) (λ file. ThriftAnswered file (F.published files.old) (O.written out.old) (O.written out.new) (outcome_of result.refusal result.subject)) }
     ensures thrift_complete { IfThrift (line.command_of words.now) (λ file. ThriftCompletes file (F.published files.old) (Rose (F.faults files.old) (F.faults files.new) ⊎ Rose (O.faults out.old) (O.faults out.new)) (outcome_of result.refusal result.subject)) }
+    ensures footer { IfFooter (line.command_of words.now) (λ asked. FooterAnswered asked (F.published files.old) (O.written out.old) (O.written out.new) (outcome_of result.refusal result.subject)) }
+    ensures footer_complete { IfFooter (line.command_of words.now) (λ asked. FooterCompletes asked (F.published files.old) (Rose (F.faults files.old) (F.faults files.new) ⊎ Rose (O.faults out.old) (O.faults out.new)) (outcome_of result.refusal result.subject)) }
 
     // A fault comes only where the count of the object that failed rose in this call.
     ensures reads { StopsReading (F.faults files.old) (F.faults files.new) (outcome_of result.refusal result.subject) }
     ensures writes { StopsWriting (O.faults out.old) (O.faults out.new) (outcome_of result.refusal result.subject) }
+    ensures service { IfErr (outcome_of result.refusal result.subject) (λ stop. stop.refusal.cause ≡ cause_of.ServiceFault → ⊥) }
     ensures random { IfErr (outcome_of result.refusal result.subject) (λ stop. stop.refusal.cause ≡ cause_of.RandomFault → Rose (N.faults random.old) (N.faults random.new)) }
 
     // The line of the refusal is written whole, or a front of it.
@@ -70,7 +75,9 @@ pub fn run<F: Files, N: Random, O: Sink, E: Sink>(
     ensures to_come { N.to_come random.new ≡ N.to_come random.old }
     ensures module_field { IfModule (line.command_of words.now) (λ key aad file. IfSome (F.published files.old) (λ told. IfErr (sealed_bytes (get told file)) (λ _. F.given files.new ≤ F.given files.old + 4))) }
     ensures thrift_unread { IfThrift (line.command_of words.now) (λ file. IfSome (F.published files.old) (λ told. IfErr (small_bytes (get told file)) (λ _. F.given files.new ≡ F.given files.old))) }
-    ensures given { F.given files.new ≤ F.given files.old + 16777248 }
+    ensures footer_unread { IfFooter (line.command_of words.now) (λ asked. IfSome (F.published files.old) (λ told. IfErr (small_bytes (get told asked.keys)) (λ _. F.given files.new ≡ F.given files.old))) }
+    ensures footer_keys { IfFooter (line.command_of words.now) (λ asked. IfSome (F.published files.old) (λ told. IfErr (loaded_keys (get told asked.keys)) (λ _. F.given files.new ≤ F.given files.old + 16777216))) }
+    ensures given { F.given files.new ≤ F.given files.old + given_limit (line.command_of words.now) }
     ensures unread { IsNone (line.command_of words.now) → F.given files.new ≡ F.given files.old }
 {
     match obey(alloc, words, files, out) {
@@ -105,13 +112,17 @@ fn obey<F: Files, O: Sink>(
     ensures module_complete { IfModule (line.command_of words.now) (λ key aad file. ModuleCompletes key aad file (F.published files.old) (Rose (F.faults files.old) (F.faults files.new) ⊎ Rose (O.faults out.old) (O.faults out.new)) result) }
     ensures thrift { IfThrift (line.command_of words.now) (λ file. ThriftAnswered file (F.published files.old) (O.written out.old) (O.written out.new) result) }
     ensures thrift_complete { IfThrift (line.command_of words.now) (λ file. ThriftCompletes file (F.published files.old) (Rose (F.faults files.old) (F.faults files.new) ⊎ Rose (O.faults out.old) (O.faults out.new)) result) }
+    ensures footer { IfFooter (line.command_of words.now) (λ asked. FooterAnswered asked (F.published files.old) (O.written out.old) (O.written out.new) result) }
+    ensures footer_complete { IfFooter (line.command_of words.now) (λ asked. FooterCompletes asked (F.published files.old) (Rose (F.faults files.old) (F.faults files.new) ⊎ Rose (O.faults out.old) (O.faults out.new)) result) }
     ensures reads { StopsReading (F.faults files.old) (F.faults files.new) result }
     ensures writes { StopsWriting (O.faults out.old) (O.faults out.new) result }
     ensures causes { stopped_by is_outcome_cause result ≡ true }
     ensures published { F.published files.new ≡ F.published files.old }
     ensures module_field { IfModule (line.command_of words.now) (λ key aad file. IfSome (F.published files.old) (λ told. IfErr (sealed_bytes (get told file)) (λ _. F.given files.new ≤ F.given files.old + 4))) }
     ensures thrift_unread { IfThrift (line.command_of words.now) (λ file. IfSome (F.published files.old) (λ told. IfErr (small_bytes (get told file)) (λ _. F.given files.new ≡ F.given files.old))) }
-    ensures given { F.given files.new ≤ F.given files.old + 16777248 }
+    ensures footer_unread { IfFooter (line.command_of words.now) (λ asked. IfSome (F.published files.old) (λ told. IfErr (small_bytes (get told asked.keys)) (λ _. F.given files.new ≡ F.given files.old))) }
+    ensures footer_keys { IfFooter (line.command_of words.now) (λ asked. IfSome (F.published files.old) (λ told. IfErr (loaded_keys (get told asked.keys)) (λ _. F.given files.new ≤ F.given files.old + 16777216))) }
+    ensures given { F.given files.new ≤ F.given files.old + given_limit (line.command_of words.now) }
     ensures unread { IsNone (line.command_of words.now) → F.given files.new ≡ F.given files.old }
 {
     match command_of(alloc, words) {
@@ -131,6 +142,8 @@ fn dispatch<F: Files, O: Sink>(
     ensures module_complete { IfModule (Some command) (λ key aad file. ModuleCompletes key aad file (F.published files.old) (Rose (F.faults files.old) (F.faults files.new) ⊎ Rose (O.faults out.old) (O.faults out.new)) result) }
     ensures thrift { IfThrift (Some command) (λ file. ThriftAnswered file (F.published files.old) (O.written out.old) (O.written out.new) result) }
     ensures thrift_complete { IfThrift (Some command) (λ file. ThriftCompletes file (F.published files.old) (Rose (F.faults files.old) (F.faults files.new) ⊎ Rose (O.faults out.old) (O.faults out.new)) result) }
+    ensures footer { IfFooter (Some command) (λ asked. FooterAnswered asked (F.published files.old) (O.written out.old) (O.written out.new) result) }
+    ensures footer_complete { IfFooter (Some command) (λ asked. FooterCompletes asked (F.published files.old) (Rose (F.faults files.old) (F.faults files.new) ⊎ Rose (O.faults out.old) (O.faults out.new)) result) }
     ensures not_usage { is_usage result ≡ false }
     ensures reads { StopsReading (F.faults files.old) (F.faults files.new) result }
     ensures writes { StopsWriting (O.faults out.old) (O.faults out.new) result }
@@ -138,7 +151,9 @@ fn dispatch<F: Files, O: Sink>(
     ensures published { F.published files.new ≡ F.published files.old }
     ensures module_field { IfModule (Some command) (λ key aad file. IfSome (F.published files.old) (λ told. IfErr (sealed_bytes (get told file)) (λ _. F.given files.new ≤ F.given files.old + 4))) }
     ensures thrift_unread { IfThrift (Some command) (λ file. IfSome (F.published files.old) (λ told. IfErr (small_bytes (get told file)) (λ _. F.given files.new ≡ F.given files.old))) }
-    ensures given { F.given files.new ≤ F.given files.old + 16777248 }
+    ensures footer_unread { IfFooter (Some command) (λ asked. IfSome (F.published files.old) (λ told. IfErr (small_bytes (get told asked.keys)) (λ _. F.given files.new ≡ F.given files.old))) }
+    ensures footer_keys { IfFooter (Some command) (λ asked. IfSome (F.published files.old) (λ told. IfErr (loaded_keys (get told asked.keys)) (λ _. F.given files.new ≤ F.given files.old + 16777216))) }
+    ensures given { F.given files.new ≤ F.given files.old + given_limit (Some command) }
 {
     match command {
         Command::Module {
@@ -147,6 +162,12 @@ fn dispatch<F: Files, O: Sink>(
             file,
         } => commands::module(alloc, key, associated_data, file, files, out),
         Command::Thrift { file } => commands::thrift(alloc, file, files, out),
+        Command::Footer {
+            file,
+            keys,
+            prefix,
+            gcm_only,
+        } => commands::footer(alloc, file, keys, prefix, gcm_only, files, out),
     }
 }
 

@@ -1,4 +1,10 @@
-ghost use Rattle.std.specs.Prelude.{◌≡◌};
+ghost use Rattle.std.specs.Prelude.{◌≡◌, ℕ, List, Bool, Option, Result, true};
+ghost use Rattle.pme_base.specs.declared.refusal.Cause.{Cause};
+ghost use Rattle.pme_base.specs.declared.refusal.Refusal.{Refusal};
+ghost use Rattle.pme_base.specs.Outside.{Published};
+ghost use Rattle.pme_base.specs.Steps.{ReadsFail};
+ghost use Rattle.pme_cli.specs.Outcomes.{StopsReading};
+ghost use Rattle.pme_cli.specs.TextCommand.{AnswersText, GivesText, caused_by, stopped_by};
 ghost use Rattle.pme_cli.specs.Stops as defined;
 
 use pme_base::{Bytes, Cause, Refusal, Text, plain_refusal};
@@ -35,5 +41,18 @@ pub fn plain_stop(alloc: Global, cause: Cause) -> Stop
     Stop {
         refusal: plain_refusal(cause),
         subject: Bytes::new(alloc),
+    }
+}
+
+/// The text, or the stop of its refusal, which is about the file `name`.
+pub fn about(alloc: Global, text: Result<Bytes, Refusal>, name: Text) -> Result<Bytes, Stop>
+    ensures stop { result ≡ defined.about name text }
+    ensures gives { (told : Option Published) (texts : Published → Result (List ℕ) Refusal) → AnswersText text texts told → GivesText result (λ files. defined.about name (texts files)) told }
+    ensures reads { (before now : ℕ) → ReadsFail before now text → StopsReading before now result }
+    ensures causes { (is_cause : Cause → Bool) → caused_by is_cause text ≡ true → stopped_by is_cause result ≡ true }
+{
+    match text {
+        Ok(text) => Ok(text),
+        Err(refusal) => Err(stop_of(alloc, refusal, name)),
     }
 }

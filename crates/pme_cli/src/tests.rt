@@ -61,23 +61,24 @@ const THRIFT_LINE: &str = "thrift --file t.bin";
 
 /// What a run answered and wrote.
 #[derive(Drop)]
-struct Outcome {
-    number: u8,
-    line: Option<Trouble>,
-    largest_read: u64,
-    out: Bytes,
-    err: Bytes,
+pub struct Outcome {
+    pub number: u8,
+    pub line: Option<Trouble>,
+    pub largest_read: u64,
+    pub out: Bytes,
+    pub err: Bytes,
 }
 
 /// The objects that a run is given.
 #[derive(Drop)]
-struct Objects {
-    files: MemFiles,
-    out: MemSink,
-    err: MemSink,
+pub struct Objects {
+    pub files: MemFiles,
+    pub out: MemSink,
+    pub err: MemSink,
 }
 
-fn words_of(alloc: Global, line: &str) -> Result<Words, OutOfMemory> {
+/// The words of a line, where `''` is an empty one.
+pub fn words_of(alloc: Global, line: &str) -> Result<Words, OutOfMemory> {
     let mut words = Words::new(alloc);
     for word in line.split_whitespace() {
         if word == "''" {
@@ -101,7 +102,8 @@ fn given(alloc: Global, file: &str) -> Result<Objects, Fail> {
     })
 }
 
-fn ran(alloc: Global, words: &Words, mut given: Objects) -> Result<Outcome, OutOfMemory> {
+/// Runs the words over these objects.
+pub fn ran(alloc: Global, words: &Words, mut given: Objects) -> Result<Outcome, OutOfMemory> {
     let mut random = MemRandom::new(alloc, Bytes::new(alloc));
     let status = run(
         alloc,
@@ -121,7 +123,7 @@ fn ran(alloc: Global, words: &Words, mut given: Objects) -> Result<Outcome, OutO
 }
 
 /// Whether these lines were written, each with its line feed; in `lines` a bar stands between two.
-fn same_lines(rt: &impl Abort, written: &Bytes, lines: &str, note: &str) {
+pub fn same_lines(rt: &impl Abort, written: &Bytes, lines: &str, note: &str) {
     match written.as_slice().strip_suffix(b"\n".as_slice()) {
         Some(text) => {
             assert_eq!(rt; text.len(), lines.len(), "{note}");

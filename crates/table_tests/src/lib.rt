@@ -4,3 +4,5 @@
 
 #[cfg(test)]
 mod pages;
+#[cfg(test)]
+mod texts;

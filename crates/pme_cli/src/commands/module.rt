@@ -13,7 +13,7 @@ ghost use Rattle.pme_cli.specs.ModuleCommand as defined;
 use crate::opened::Opened;
 use crate::printing::{hex_line, print_text};
 use crate::sealed_file::{PLAINTEXT_LIMIT, read_sealed};
-use crate::stop::Stop;
+use crate::stop::{Stop, about};
 use aes_block::AesKey;
 use command_line::AssociatedData;
 use crypto_module::read_gcm;
@@ -39,7 +39,7 @@ pub fn module<F: Files, O: Sink>(
     ensures given { F.given files.new ≤ F.given files.old + 16777248 }
 {
     let text = module_text(alloc, &key, &associated_data, files, name.as_str());
-    print_text(alloc, text, name, out)
+    print_text(alloc, about(alloc, text, name), out)
 }
 
 /// The plaintext of the module that fills the file `name`, in hex.

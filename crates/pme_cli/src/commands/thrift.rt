@@ -11,7 +11,7 @@ ghost use Rattle.pme_cli.specs.ThriftCommand as defined;
 
 use crate::printing::print_text;
 use crate::small_file::read_small;
-use crate::stop::Stop;
+use crate::stop::{Stop, about};
 use pme_base::{
     Bytes, Cause, Detail, Files, OutOfMemory, Place, Refusal, Sink, Text, plain_refusal, refusal_at,
 };
@@ -36,7 +36,7 @@ pub fn thrift<F: Files, O: Sink>(
     ensures given { F.given files.new ≤ F.given files.old + 16777216 }
 {
     let text = thrift_text(alloc, files, name.as_str());
-    print_text(alloc, text, name, out)
+    print_text(alloc, about(alloc, text, name), out)
 }
 
 /// The text of the struct at the front of the file `name`.

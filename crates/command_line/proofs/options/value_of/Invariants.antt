@@ -4,7 +4,7 @@ use Rattle.command_line.proofs.options.value_of.Given as goal
 
 -- what is sought stands in the options that are left
 abbrev pub invariant-loop-rest : goal.invariant-loop-rest
-invariant-loop-rest l = value_of l.name l.options ≡ value_of l.name l.rest
+invariant-loop-rest l = value_of l.verb l.name l.options ≡ value_of l.verb l.name l.rest
 
 abbrev pub decreases-loop-rest : goal.decreases-loop-rest
 decreases-loop-rest l = length l.rest

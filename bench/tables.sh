@@ -1,0 +1,198 @@
+#!/usr/bin/env bash
+# Measures tables as this repository builds them: one generated from a seed, its text, and the table that is read back
+# from this text. All times are processor time, the least of several runs counts, and a rate is the bytes of the text
+# by that time. Memory is the most that the program held while it read, in times of the text's bytes. It builds a
+# throw-away program over a copy of the crates.
+set -eu
+top=$(cd "$(dirname "$0")/.." && pwd)
+work=$(mktemp -d)
+trap 'rm -rf "$work"' EXIT
+git -C "$work" init -q
+bench="$work/crates/tables_bench"
+mkdir -p "$bench/src" "$bench/specs" "$bench/proofs"
+for name in pme_base parquet_types hybrid_runs plain_pages table_text; do
+    mkdir "$work/crates/$name"
+    (cd "$top/crates/$name" && cp -r src specs proofs "$work/crates/$name/" 2>/dev/null) || true
+done
+{ grep -E '^(pme_base|parquet_types|hybrid_runs|plain_pages|table_text):' "$top/crates.txt"; echo 'tables_bench: table_text plain_pages parquet_types pme_base anyhow'; } > "$work/crates.txt"
+cat > "$bench/src/main.rt" <<'RT'
+// Times tables: generated, written as text, and read back.
+#![tactic(auto)]
+
+ghost use Rattle.std.specs.Prelude.{◌≡◌, ◌<◌, length, IfOk};
+ghost use Rattle.std.specs.List.{AllByRecursion};
+ghost use Rattle.plain_pages.specs.Columns.{rows_of};
+
+use anyhow::{Result, anyhow};
+use parquet_types::{ColumnSpec, FlatSchema};
+use plain_pages::Table;
+use pme_base::{Bytes, OutOfMemory};
+use std::alloc::Global;
+use std::fs;
+use std::time::CpuClock;
+use table_text::{CellTexts, Choice, cell_text, generate, header_text, row_text, table_from_csv};
+
+fn schema_of(alloc: Global, table: &Table) -> Result<FlatSchema, OutOfMemory>
+    ensures { IfOk result (λ schema. length schema ≡ length table.now) }
+{
+    let mut schema = FlatSchema::new(alloc);
+    for column in 0..table.columns() {
+        let spec = table.spec(column);
+        let copy = ColumnSpec {
+            name: Bytes::copy_of(alloc, spec.name.as_slice())?,
+            kind: spec.kind,
+            optional: spec.optional,
+            text: spec.text,
+        };
+        schema.push(copy)?;
+    }
+    Ok(schema)
+}
+
+fn all_columns(alloc: Global, count: usize) -> Result<Choice, OutOfMemory>
+    ensures number { IfOk result (λ chosen. length chosen ≡ count) }
+    ensures inside { IfOk result (λ chosen. AllByRecursion (λ column. column < count) chosen) }
+{
+    let mut chosen = Choice::new(alloc);
+    for column in 0..count {
+        chosen.push(column)?;
+    }
+    Ok(chosen)
+}
+
+#[tactic(auto, using(crate::proofs::Cells::cell_fits))]
+fn push_cell(table: &Table, column: usize, row: usize, into: &mut Bytes) -> Result<(), OutOfMemory>
+    requires column { column < length table.now }
+    requires row { row < rows_of table.now }
+{
+    cell_text(table.spec(column), table.cell(column, row), into)
+}
+
+fn row_cells(alloc: Global, table: &Table, row: usize) -> Result<CellTexts, OutOfMemory>
+    requires { row < rows_of table.now }
+    ensures { IfOk result (λ cells. length cells ≡ length table.now) }
+{
+    let mut cells = CellTexts::new(alloc);
+    for column in 0..table.columns() {
+        let mut cell = Bytes::new(alloc);
+        push_cell(table, column, row, &mut cell)?;
+        cells.push(cell)?;
+    }
+    Ok(cells)
+}
+
+fn text_of(alloc: Global, table: &Table) -> Result<Bytes, OutOfMemory> {
+    let mut text = Bytes::new(alloc);
+    if table.columns() == 0 {
+        return Ok(text);
+    }
+    let schema = schema_of(alloc, table)?;
+    let chosen = all_columns(alloc, table.columns())?;
+    header_text(alloc, &schema, &chosen, &mut text)?;
+    for row in 0..table.rows() {
+        let cells = row_cells(alloc, table, row)?;
+        row_text(alloc, &cells, &mut text)?;
+    }
+    Ok(text)
+}
+
+fn generate_and_write(rt: &HostRuntime) -> Result<()> {
+    let alloc = rt.alloc();
+    let start = rt.thread_cpu_time()?;
+    let table = generate(alloc, 7, 1_000_000)?;
+    let made = rt.thread_cpu_time()?;
+    let text = text_of(alloc, &table)?;
+    let written = rt.thread_cpu_time()?;
+    fs::write(rt, "table.csv", text.as_slice())?;
+    let making = made.saturating_sub(start).as_nanos();
+    let writing = written.saturating_sub(made).as_nanos();
+    println!(rt; "{making} {writing} {}", text.len())?;
+    Ok(())
+}
+
+fn read(rt: &HostRuntime, text: &[u8]) -> Result<()> {
+    if text.len() > 268_435_456 {
+        return Err(anyhow!("too long"));
+    }
+    let start = rt.thread_cpu_time()?;
+    let Ok(table) = table_from_csv(rt.alloc(), text) else {
+        return Err(anyhow!("no table"));
+    };
+    let end = rt.thread_cpu_time()?;
+    let took = end.saturating_sub(start).as_nanos();
+    println!(rt; "{took} {} {} {}", text.len(), table.columns(), table.rows())?;
+    Ok(())
+}
+
+fn main(rt: HostRuntime) -> Result<()> {
+    match fs::read(&rt, "table.csv") {
+        Ok(text) => read(&rt, text.as_slice()),
+        Err(_) => generate_and_write(&rt),
+    }
+}
+RT
+echo 'pub mod Cells' > "$bench/proofs/Lib.antt"
+cat > "$bench/proofs/Cells.antt" <<'ANTT'
+use Rattle.std.proofs.Common.{◌≡◌, Option, Some, None, refl}
+use Rattle.std.specs.Option.{option_map}
+use Rattle.parquet_types.specs.declared.column.ColumnSpec.{ColumnSpec}
+use Rattle.plain_pages.specs.Cells.{Cell}
+use Rattle.plain_pages.specs.Columns.{Column, IsCellOf}
+
+-- a cell of a table is one of its column's
+pub cell_fits : (column : Option Column) (spec : ColumnSpec) (cell : Cell) → option_map (λ (c : Column). c.spec) column ≡ Some spec
+    → ((c : Column) → column ≡ Some c → IsCellOf c.spec cell) → IsCellOf spec cell
+cell_fits None spec cell e h = cc e
+cell_fits (Some c) spec cell e h = let same : c.spec ≡ spec = cc e in rw (← same) (h c refl)
+ANTT
+invariant() {
+    mkdir -p "$bench/proofs/$1"
+    cat > "$bench/proofs/$1/Invariants.antt" <<ANTT
+use Rattle.std.proofs.Common.{◌≡◌, ◌<◌, ℕ, length}
+use Rattle.std.specs.List.{AllByRecursion}
+use Rattle.tables_bench.proofs.$1.Given as goal
+
+abbrev pub invariant-loop-column : goal.invariant-loop-column
+invariant-loop-column l = $2
+ANTT
+}
+invariant schema_of 'length l.schema ≡ l.column'
+invariant row_cells 'length l.cells ≡ l.column'
+invariant all_columns '(length l.chosen ≡ l.column) × AllByRecursion (λ (column : ℕ). column < l.fn.count) l.chosen'
+(cd "$bench" && rt run > "$work/ours.txt" 2> "$work/rt.log") || { cat "$work/ours.txt" "$work/rt.log" | tail -n 40; exit 1; }
+cd "$work"
+python3 - "$bench/out/tables_bench" <<'PY'
+import os, subprocess, sys
+def run():
+    child = subprocess.Popen([sys.argv[1]], stdout=subprocess.PIPE)
+    words = child.stdout.read().split()
+    _, status, usage = os.wait4(child.pid, 0)
+    assert status == 0
+    return [int(word) for word in words], usage.ru_maxrss * 1024
+def times(generated, count):
+    best, memory = None, 0
+    for _ in range(count):
+        if generated and os.path.exists("table.csv"):
+            os.remove("table.csv")
+        numbers, held = run()
+        best = numbers if best is None or numbers[0] < best[0] else best
+        memory = max(memory, held)
+    return best, memory
+(making, writing, size), _ = times(True, 3)
+print(f"a million rows: generated in {making / 1e9:.2f} s, written in {writing / 1e9:.2f} s as {size / 1e6:.1f} MB")
+def reading(name):
+    (took, size, columns, rows), memory = times(False, 3)
+    print(f"read {name}: {size * 1000 / took:.0f} MB/s, {memory / size:.1f} times its bytes of memory, {rows} rows of {columns} columns")
+reading("generated rows")
+def text(name, header, row, count):
+    with open("table.csv", "w") as out:
+        out.write(header + "\n" + (row + "\n") * count)
+    reading(name)
+text("long texts", "a:text,b:bytes", "x" * 100 + "," + "ab" * 50, 200_000)
+text("quoted texts", "a:text", '"' + 'say ""so"", ' * 8 + '"', 400_000)
+text("short numbers", "a:int64", "7", 10_000_000)
+text("empty texts", "a:bytes,b:bytes", ",", 10_000_000)
+with open("table.csv", "w") as out:
+    out.write(",".join(f"{n}:bool" for n in range(1_000_000)) + "\n")
+reading("many columns")
+PY

@@ -1,0 +1,42 @@
+-- How long the parts of a written tail are.
+use Rattle.std.proofs.Common.{◌≡◌, ℕ, ◌+◌, ◌||◌, nat_lt, List, ◌++◌, length, ap, ◌∙◌, arith, Result, Ok, Err, OnOk, length-append}
+use Rattle.gcm_seal.specs.Gcm.{gctr}
+use Rattle.gcm_seal.proofs.Texts.{length-tag_of}
+use Rattle.module_aad.specs.Aad.{aad}
+use Rattle.crypto_module.specs.Modules.{sealed_gcm}
+use Rattle.crypto_module.proofs.Written.{sealed_length}
+use Rattle.footer_modes.specs.Ends.{footer_place}
+use Rattle.footer_modes.specs.Written.{is_too_large, footer_tag, encrypted_area, signed_area}
+
+pub encrypted_area_length : (key file nonce crypto footer : List ℕ) → length nonce ≡ 12
+    → length (encrypted_area key file nonce crypto footer) ≡ length crypto + (32 + length footer)
+encrypted_area_length key file nonce crypto footer twelve =
+    length-append crypto (sealed_gcm key (aad file footer_place) nonce footer)
+    ∙ ap (λ n. length crypto + n) (sealed_length key (aad file footer_place) nonce footer twelve)
+
+pub signed_area_length : (key file nonce footer : List ℕ) → length nonce ≡ 12
+    → length (signed_area key file nonce footer) ≡ length footer + 28
+signed_area_length key file nonce footer twelve =
+    let tag = footer_tag key file nonce footer in
+    let sixteen : length tag ≡ 16 = length-tag_of key nonce (aad file footer_place) (gctr key nonce 2 footer) in
+    omega (arith, length-append footer (nonce ++ tag), length-append nonce tag)
+
+-- what a call that adds a module makes
+pub module_added : {E : Type 0} (result : Result Unit E) (key file nonce before after footer : List ℕ) → length nonce ≡ 12
+    → OnOk result (after ≡ encrypted_area key file nonce before footer) → OnOk result (length after ≡ length before + (32 + length footer))
+module_added (Ok tt) key file nonce before after footer twelve e =
+    ap length e ∙ encrypted_area_length key file nonce before footer twelve
+module_added (Err refusal) key file nonce before after footer twelve e = tt
+
+-- an area is too large by the bytes that it has
+pub too_large_encrypted : (key file nonce crypto footer : List ℕ) → length nonce ≡ 12
+    → is_too_large footer (encrypted_area key file nonce crypto footer) ≡ (nat_lt 16777216 (length footer) || nat_lt 16842752 (length footer + (length crypto + 32)))
+too_large_encrypted key file nonce crypto footer twelve =
+    let size : length (encrypted_area key file nonce crypto footer) ≡ length footer + (length crypto + 32) =
+    omega (arith, encrypted_area_length key file nonce crypto footer twelve) in
+    ap (λ n. nat_lt 16777216 (length footer) || nat_lt 16842752 n) size
+
+pub too_large_signed : (key file nonce footer : List ℕ) → length nonce ≡ 12
+    → is_too_large footer (signed_area key file nonce footer) ≡ (nat_lt 16777216 (length footer) || nat_lt 16842752 (length footer + 28))
+too_large_signed key file nonce footer twelve =
+    ap (λ n. nat_lt 16777216 (length footer) || nat_lt 16842752 n) (signed_area_length key file nonce footer twelve)

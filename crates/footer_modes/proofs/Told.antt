@@ -1,0 +1,27 @@
+-- From the ends of a told file and its footer area to what comes of the area.
+use Rattle.std.proofs.Common.{◌≡◌, ℕ, List, [], Option, Some, None, unwrap_or, IfSome, Result, Ok, refl, sym, ◌∙◌, ap}
+use Rattle.std.specs.FinMap.{get}
+use Rattle.pme_base.specs.declared.refusal.Refusal.{Refusal}
+use Rattle.pme_base.specs.Outside.{Published, bytes_of}
+use Rattle.pme_base.specs.Steps.{◌>>=◌, Answers}
+use Rattle.footer_modes.specs.declared.ends.Ends.{Ends}
+use Rattle.footer_modes.specs.Ends.{IsInside, ends_of, file_ends, area_of}
+
+-- a step on the area is the whole's on a file's bytes
+abbrev pub Continues : {T : Type 0} → (Ends → List ℕ → Result T Refusal) → (Option (List ℕ) → Result T Refusal) → Type 0
+Continues next whole = (bytes : List ℕ) → whole (Some bytes) ≡ (ends_of bytes >>= λ ends. next ends (area_of ends bytes))
+
+of_file : {T : Type 0} (next : Ends → List ℕ → Result T Refusal) (whole : Option (List ℕ) → Result T Refusal) → Continues next whole
+    → (file : Option (List ℕ)) (ends : Ends) (area : List ℕ) (result : Result T Refusal) → Answers (Ok ends) (file_ends file) → IsInside ends (unwrap_or file [])
+    → (IsInside ends (unwrap_or file []) → area ≡ area_of ends (unwrap_or file [])) → Answers result (next ends area) → Answers result (whole file)
+of_file next whole c None ends area result e i a r = let h : Ok ends ≡ file_ends None = e refl in cc
+of_file next whole c (Some bytes) ends area result e i a r =
+    λ free. r free ∙ ap (next ends) (a i) ∙ ap (λ x. x >>= λ ends. next ends (area_of ends bytes)) (e refl) ∙ sym (c bytes)
+
+pub of_told : {T : Type 0} (next : Ends → List ℕ → Result T Refusal) (whole : Option (List ℕ) → Result T Refusal) → Continues next whole
+    → (told : Option Published) (name : List ℕ) (ends : Ends) (area : List ℕ) (result : Result T Refusal)
+    → IfSome told (λ files. Answers (Ok ends) (file_ends (get files name))) → IfSome told (λ files. IsInside ends (bytes_of files name))
+    → IfSome told (λ files. IsInside ends (bytes_of files name) → area ≡ area_of ends (bytes_of files name))
+    → Answers result (next ends area) → IfSome told (λ files. Answers result (whole (get files name)))
+of_told next whole c None name ends area result e i a r = tt
+of_told next whole c (Some files) name ends area result e i a r = of_file next whole c (get files name) ends area result e i a r

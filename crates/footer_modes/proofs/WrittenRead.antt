@@ -1,0 +1,148 @@
+-- A tail that was written is read.
+use Rattle.std.proofs.Common.{◌≡◌, ℕ, ◌+◌, ◌≤◌, nat_lt, ◌==◌, false, true, List, [], ◌++◌, length, take, drop, refl, sym, ap, ◌∙◌, arith, Option, Some, Ok}
+use Rattle.std.proofs.lemmas.Bool.Decides.{nat_tests}
+use Rattle.std.proofs.lemmas.List.{append-nil, take_at, drop_at}
+use Rattle.pme_base.specs.Steps.{◌>>=◌}
+use Rattle.module_aad.specs.Aad.{aad}
+use Rattle.crypto_module.specs.Modules.{sealed_gcm}
+use Rattle.crypto_module.specs.Opening.{opened}
+use Rattle.crypto_module.proofs.ReadBack.{gcm_reads_back}
+use Rattle.crypto_module.proofs.Sealed.{same_bytes}
+use Rattle.key_rights.specs.Finding.{footer}
+use Rattle.parquet_types.specs.declared.file_meta.AlgorithmMeta.{AlgorithmMeta}
+use Rattle.parquet_types.specs.declared.file_meta.FileCrypto.{FileCrypto}
+use Rattle.parquet_types.specs.declared.file_meta.FileMeta.{FileMeta}
+use Rattle.parquet_fields.specs.Calls.{file_crypto_at, signing_at, split_signing}
+use Rattle.footer_modes.specs.declared.head.Head.{Head}
+use Rattle.footer_modes.specs.declared.mode.FooterMode.{FooterMode}
+use Rattle.footer_modes.specs.declared.mode.FooterMode.TheVariants.{Encrypted, Signed}
+use Rattle.footer_modes.specs.Ends.{footer_place, ends_of, area_of}
+use Rattle.footer_modes.specs.TailOf.{Asks, sealed_head, signed_head, head_of, allowed, aad_of, key_of, signature, checked, plain_of, footer_of, area_tail, tail_of, metadata_of}
+use Rattle.footer_modes.specs.Written.{closed, footer_tag, encrypted_area, signed_area, encrypted_tail, signed_tail, is_too_large}
+use Rattle.footer_modes.specs.WrittenRead.{CanOpen, IsCrypto, IsSigning, tail_with, Begins}
+use Rattle.footer_modes.proofs.Ended.{step, ends_with, ends_closed, area_closed}
+use Rattle.footer_modes.proofs.Lengths.{signed_area_length}
+
+-- an area within the limit, and a footer within its own
+small_area : (plain area : List ℕ) → is_too_large plain area ≡ false → nat_lt 16842752 (length area) ≡ false
+small_area plain area small = grind (arith, nat_tests)
+
+small_footer : (plain area : List ℕ) → is_too_large plain area ≡ false → length plain ≤ 16777216
+small_footer plain area small = grind (arith, nat_tests)
+
+-- the tail of a closed area is that of the area
+tail_closed : (asks : Asks) (mode : FooterMode) (before area : List ℕ) → Begins mode before → nat_lt 16842752 (length area) ≡ false
+    → tail_of asks (before ++ closed mode area) ≡ area_tail asks mode (length before) area
+tail_closed asks mode before area first small =
+    let bytes = before ++ closed mode area in
+    step (ends_with mode (length before) (length area)) (ends_of bytes) (λ ends. area_tail asks ends.mode ends.data_end (area_of ends bytes))
+    (ends_closed mode before area first small)
+    ∙ ap (area_tail asks mode (length before)) (area_closed mode before area)
+
+metadata_closed : (mode : FooterMode) (before area : List ℕ) (head : Head) → Begins mode before → nat_lt 16842752 (length area) ≡ false
+    → head_of mode (length before) area ≡ Ok head → metadata_of (before ++ closed mode area) ≡ Ok head.metadata
+metadata_closed mode before area head first small is =
+    let bytes = before ++ closed mode area in
+    step (ends_with mode (length before) (length area)) (ends_of bytes) (λ ends. head_of ends.mode ends.data_end (area_of ends bytes) >>= (λ head. Ok head.metadata))
+    (ends_closed mode before area first small)
+    ∙ step head (head_of mode (length before) (area_of (ends_with mode (length before) (length area)) bytes)) (λ head. Ok head.metadata)
+    (ap (head_of mode (length before)) (area_closed mode before area) ∙ is)
+
+-- the steps of a reader that can open the area
+area_read : (asks : Asks) (mode : FooterMode) (data_end : ℕ) (area : List ℕ) (head : Head) (key file plain : List ℕ)
+    → head_of mode data_end area ≡ Ok head → CanOpen asks head.algorithm head.metadata key file
+    → plain_of mode key file (data_end + head.size) head.size area ≡ Ok plain
+    → area_tail asks mode data_end area
+    ≡ (footer_of plain >>= λ meta. Ok (tail_with mode head.algorithm file key data_end (data_end + head.size) meta))
+area_read asks mode data_end area head key file plain is can opens =
+    let made = λ (head : Head) (file key : List ℕ) (meta : FileMeta). tail_with mode head.algorithm file key data_end (data_end + head.size) meta in
+    let read = λ (head : Head) (file key plain : List ℕ). footer_of plain >>= (λ meta. Ok (made head file key meta)) in
+    let unlocked = λ (head : Head) (file key : List ℕ). plain_of mode key file (data_end + head.size) head.size area >>= read head file key in
+    let keyed = λ (head : Head) (file : List ℕ). key_of (asks.answer (footer head.metadata)) >>= unlocked head file in
+    let bound = λ (head : Head). aad_of head.algorithm asks.prefix >>= keyed head in
+    step head (head_of mode data_end area) (λ head. allowed asks.gcm_only head.algorithm >>= (λ _. bound head)) is
+    ∙ step tt (allowed asks.gcm_only head.algorithm) (λ _. bound head) can.takes
+    ∙ step file (aad_of head.algorithm asks.prefix) (keyed head) can.associated
+    ∙ step key (key_of (asks.answer (footer head.metadata))) (unlocked head file) (ap key_of can.holds)
+    ∙ step plain (plain_of mode key file (data_end + head.size) head.size area) (read head file key) opens
+
+-- the front of an encrypted area, and its module
+encrypted_head : (key file nonce crypto plain : List ℕ) (data_end : ℕ) (head : FileCrypto) → IsCrypto crypto head
+    → head_of Encrypted data_end (encrypted_area key file nonce crypto plain) ≡ Ok (sealed_head (head, length crypto))
+encrypted_head key file nonce crypto plain data_end head is =
+    step (head, length crypto) (file_crypto_at footer_place (encrypted_area key file nonce crypto plain)) (λ read. Ok (sealed_head read))
+    (is (sealed_gcm key (aad file footer_place) nonce plain))
+
+encrypted_plain : (key file nonce crypto plain : List ℕ) (at : ℕ) → length nonce ≡ 12 → length plain ≤ 16777216
+    → plain_of Encrypted key file at (length crypto) (encrypted_area key file nonce crypto plain) ≡ Ok plain
+encrypted_plain key file nonce crypto plain at twelve short =
+    let associated = aad file footer_place in
+    let sealed = sealed_gcm key associated nonce plain in
+    let there : drop (length crypto) (crypto ++ sealed) ≡ sealed ++ [] = drop_at crypto sealed (length crypto) refl ∙ sym (append-nil sealed) in
+    let back = gcm_reads_back key associated nonce plain [] footer_place at 16777216 true twelve short (omega arith) (λ _. refl) in
+    ap (opened key associated footer_place at 16777216 true) there ∙ back.opens
+
+-- the front of a signed area, and what is signed
+signed_front : (key file nonce plain : List ℕ) (data_end : ℕ) (algorithm : AlgorithmMeta) (metadata : Option (List ℕ)) → length nonce ≡ 12
+    → IsSigning plain algorithm metadata
+    → head_of Signed data_end (signed_area key file nonce plain) ≡ Ok (record { algorithm = algorithm; metadata = metadata; size = length plain })
+signed_front key file nonce plain data_end algorithm metadata twelve is =
+    let area = signed_area key file nonce plain in
+    let room : (length area == length plain + 28) ≡ true = grind (arith, nat_tests, signed_area_length key file nonce plain twelve) in
+    step (Some algorithm, metadata, length plain) (split_signing (signing_at footer_place area))
+    (λ read. signed_head (data_end + length area) (length area) read.0 read.1 read.2)
+    (ap split_signing (is (nonce ++ footer_tag key file nonce plain)))
+    ∙ (rw room refl)
+
+signed_plain : (key file nonce plain : List ℕ) (at : ℕ) → length nonce ≡ 12
+    → plain_of Signed key file at (length plain) (signed_area key file nonce plain) ≡ Ok plain
+signed_plain key file nonce plain at twelve =
+    let associated = aad file footer_place in
+    let tag = footer_tag key file nonce plain in
+    let area = plain ++ (nonce ++ tag) in
+    let front : take (length plain) area ≡ plain = take_at plain (nonce ++ tag) (length plain) refl in
+    let behind : drop (length plain) area ≡ nonce ++ tag = drop_at plain (nonce ++ tag) (length plain) refl in
+    let nonce_is : take 12 (drop (length plain) area) ≡ nonce = ap (take 12) behind ∙ take_at nonce tag 12 twelve in
+    let stored : drop 12 (drop (length plain) area) ≡ tag = ap (drop 12) behind ∙ drop_at nonce tag 12 twelve in
+    (λ i. checked at (signature key associated (nonce_is i) (front i)) (stored i) (front i))
+    ∙ (rw (same_bytes tag) refl)
+
+pub encrypted_read : (asks : Asks) (key file nonce crypto plain before : List ℕ) (head : FileCrypto) → Begins Encrypted before → length nonce ≡ 12
+    → is_too_large plain (encrypted_area key file nonce crypto plain) ≡ false → IsCrypto crypto head
+    → CanOpen asks head.algorithm head.key_metadata key file
+    → tail_of asks (before ++ encrypted_tail key file nonce crypto plain)
+    ≡ (footer_of plain >>= λ meta. Ok (tail_with Encrypted head.algorithm file key (length before) (length before + length crypto) meta))
+encrypted_read asks key file nonce crypto plain before head first twelve small is can =
+    let area = encrypted_area key file nonce crypto plain in
+    tail_closed asks Encrypted before area first (small_area plain area small)
+    ∙ area_read asks Encrypted (length before) area (sealed_head (head, length crypto)) key file plain (encrypted_head key file nonce crypto plain (length before) head is) can
+    (encrypted_plain key file nonce crypto plain (length before + length crypto) twelve (small_footer plain area small))
+
+pub encrypted_metadata_read : (key file nonce crypto plain before : List ℕ) (head : FileCrypto) → Begins Encrypted before → length nonce ≡ 12
+    → is_too_large plain (encrypted_area key file nonce crypto plain) ≡ false → IsCrypto crypto head
+    → metadata_of (before ++ encrypted_tail key file nonce crypto plain) ≡ Ok head.key_metadata
+encrypted_metadata_read key file nonce crypto plain before head first twelve small is =
+    let area = encrypted_area key file nonce crypto plain in
+    metadata_closed Encrypted before area (sealed_head (head, length crypto)) first (small_area plain area small)
+    (encrypted_head key file nonce crypto plain (length before) head is)
+
+pub signed_read : (asks : Asks) (key file nonce plain before : List ℕ) (algorithm : AlgorithmMeta) (metadata : Option (List ℕ)) → Begins Signed before → length nonce ≡ 12
+    → is_too_large plain (signed_area key file nonce plain) ≡ false → IsSigning plain algorithm metadata
+    → CanOpen asks algorithm metadata key file
+    → tail_of asks (before ++ signed_tail key file nonce plain)
+    ≡ (footer_of plain >>= λ meta. Ok (tail_with Signed algorithm file key (length before) (length before + length plain) meta))
+signed_read asks key file nonce plain before algorithm metadata first twelve small is can =
+    let area = signed_area key file nonce plain in
+    let head : Head = record { algorithm = algorithm; metadata = metadata; size = length plain } in
+    tail_closed asks Signed before area first (small_area plain area small)
+    ∙ area_read asks Signed (length before) area head key file plain (signed_front key file nonce plain (length before) algorithm metadata twelve is) can
+    (signed_plain key file nonce plain (length before + length plain) twelve)
+
+pub signed_metadata_read : (key file nonce plain before : List ℕ) (algorithm : AlgorithmMeta) (metadata : Option (List ℕ)) → Begins Signed before → length nonce ≡ 12
+    → is_too_large plain (signed_area key file nonce plain) ≡ false → IsSigning plain algorithm metadata
+    → metadata_of (before ++ signed_tail key file nonce plain) ≡ Ok metadata
+signed_metadata_read key file nonce plain before algorithm metadata first twelve small is =
+    let area = signed_area key file nonce plain in
+    let head : Head = record { algorithm = algorithm; metadata = metadata; size = length plain } in
+    metadata_closed Signed before area head first (small_area plain area small)
+    (signed_front key file nonce plain (length before) algorithm metadata twelve is)

@@ -1,0 +1,84 @@
+-- Which causes the refusals of each step have, and when a finder of keys is to blame.
+use Rattle.std.specs.Prelude.{◌≡◌, ℕ, ◌≤◌, Bool, true, false, Result, IfErr}
+use Rattle.pme_base.specs.declared.refusal.Cause.{Cause}
+use Rattle.pme_base.specs.declared.refusal.Cause.TheVariants.{Truncated, BadLength, BadTag, BadMagic, BadMaterial, NoMaterial, WrapTag, KeyLength, BadFooterLength, NotEncrypted, PrefixNeeded, PrefixUnused, PrefixDiffers, FooterKeyMissing, AlgorithmRefused, TooLarge, NoFile, ReadFault, ServiceFault, OutOfMemory}
+use Rattle.pme_base.specs.declared.refusal.Refusal.{Refusal}
+use Rattle.pme_base.specs.Counts.{Rose}
+use Rattle.key_rights.specs.Finding.{is_key_cause}
+use Rattle.parquet_fields.specs.Causes.{is_struct_cause}
+use Rattle.parquet_meta.specs.Footer.{is_file_cause}
+
+abbrev pub is_reading_cause : Cause → Bool
+is_reading_cause Truncated = true
+is_reading_cause ReadFault = true
+is_reading_cause OutOfMemory = true
+is_reading_cause _ = false
+
+-- of the ends of a file
+abbrev pub is_ends_cause : Cause → Bool
+is_ends_cause NoFile = true
+is_ends_cause BadMagic = true
+is_ends_cause BadFooterLength = true
+is_ends_cause TooLarge = true
+is_ends_cause cause = is_reading_cause cause
+
+-- of what stands at the front of the area
+abbrev pub is_head_cause : Cause → Bool
+is_head_cause NotEncrypted = true
+is_head_cause BadFooterLength = true
+is_head_cause cause = is_struct_cause cause
+
+-- of the associated data
+abbrev pub is_aad_cause : Cause → Bool
+is_aad_cause TooLarge = true
+is_aad_cause PrefixNeeded = true
+is_aad_cause PrefixUnused = true
+is_aad_cause PrefixDiffers = true
+is_aad_cause OutOfMemory = true
+is_aad_cause _ = false
+
+-- of the footer's key
+abbrev pub is_footer_key_cause : Cause → Bool
+is_footer_key_cause FooterKeyMissing = true
+is_footer_key_cause ServiceFault = true
+is_footer_key_cause OutOfMemory = true
+is_footer_key_cause cause = is_key_cause cause
+
+-- of a footer area
+abbrev pub is_area_cause : Cause → Bool
+is_area_cause NotEncrypted = true
+is_area_cause BadFooterLength = true
+is_area_cause AlgorithmRefused = true
+is_area_cause PrefixNeeded = true
+is_area_cause PrefixUnused = true
+is_area_cause PrefixDiffers = true
+is_area_cause FooterKeyMissing = true
+is_area_cause ServiceFault = true
+is_area_cause BadMaterial = true
+is_area_cause NoMaterial = true
+is_area_cause WrapTag = true
+is_area_cause KeyLength = true
+is_area_cause Truncated = true
+is_area_cause BadLength = true
+is_area_cause BadTag = true
+is_area_cause cause = is_file_cause cause
+
+-- of a whole tail, and of the metadata of the footer's key
+abbrev pub is_tail_cause : Cause → Bool
+is_tail_cause NoFile = true
+is_tail_cause BadMagic = true
+is_tail_cause ReadFault = true
+is_tail_cause cause = is_area_cause cause
+
+abbrev pub is_metadata_cause : Cause → Bool
+is_metadata_cause NoFile = true
+is_metadata_cause BadMagic = true
+is_metadata_cause TooLarge = true
+is_metadata_cause Truncated = true
+is_metadata_cause ReadFault = true
+is_metadata_cause cause = is_head_cause cause
+
+-- the count of faults of a finder of keys never falls, and a step answers ServiceFault only where it rose
+pub record FinderFails {T : Type 0} (before now : ℕ) (result : Result T Refusal) : Type 0 where
+  pub later : before ≤ now
+  pub failed : IfErr result (λ refusal. refusal.cause ≡ ServiceFault → Rose before now)

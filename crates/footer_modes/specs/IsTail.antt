@@ -1,0 +1,93 @@
+-- What it is that a file ends with a footer, as the format lays it out ("Parquet Modular Encryption", "Encrypted footer
+-- mode" and "Plaintext footer mode"), and that a reader takes it.
+use Rattle.std.specs.Prelude.{◌≡◌, ◌↔◌, ℕ, ◌+◌, ◌≤◌, Bool, true, false, List, [], ◌++◌, length, take, drop, Option, Some, None, IfSome, Ok}
+use Rattle.std.specs.Int.{w32, to_le_bytes}
+use Rattle.gcm_seal.specs.Gcm.{seal}
+use Rattle.module_aad.specs.Aad.{aad}
+use Rattle.crypto_module.specs.Modules.{IsGcm}
+use Rattle.crypto_module.specs.Opening.{AreBytes}
+use Rattle.key_rights.specs.declared.finder.KeyAnswer.TheVariants.{Held}
+use Rattle.key_rights.specs.Finding.{footer}
+use Rattle.parquet_types.specs.declared.file_meta.AlgorithmMeta.{AlgorithmMeta}
+use Rattle.parquet_fields.specs.Calls.{file_crypto_at, signing_at}
+use Rattle.parquet_meta.specs.Footer.{file_meta_at}
+use Rattle.footer_modes.specs.declared.mode.FooterMode.{FooterMode}
+use Rattle.footer_modes.specs.declared.mode.FooterMode.TheVariants.{Encrypted, Signed}
+use Rattle.footer_modes.specs.declared.tail.Tail.{Tail}
+use Rattle.footer_modes.specs.Ends.{footer_place, magic_of}
+use Rattle.footer_modes.specs.TailOf.{Asks, tail_of}
+
+-- the prefix of the associated data, where the file stores this, asks for a supplied one or not, and this is supplied
+abbrev pub IsPrefix : Option (List ℕ) → Bool → Option (List ℕ) → List ℕ → Type 0
+IsPrefix (Some stored) supply None prefix = prefix ≡ stored
+IsPrefix (Some stored) supply (Some supplied) prefix = (prefix ≡ stored) × (prefix ≡ supplied)
+IsPrefix None true (Some supplied) prefix = prefix ≡ supplied
+IsPrefix None true None prefix = ⊥
+IsPrefix None false (Some supplied) prefix = ⊥
+IsPrefix None false None prefix = prefix ≡ []
+
+-- the file AAD by the file's algorithm and what the reader supplies
+pub record IsFileAad (algorithm : AlgorithmMeta) (supplied : Option (List ℕ)) (file : List ℕ) : Type 0 where
+  pub prefix : List ℕ
+  pub prefix_is : IsPrefix algorithm.prefix algorithm.supply supplied prefix
+  pub stored_short : IfSome algorithm.prefix (λ stored. length stored ≤ 1024)
+  pub unique_short : length algorithm.unique ≤ 64
+  pub joined : file ≡ prefix ++ algorithm.unique
+
+-- how a footer is sealed or signed: the key, the file AAD, the algorithm, and the metadata of the key
+pub record Sealing : Type 0 where
+  pub key : List ℕ
+  pub file : List ℕ
+  pub algorithm : AlgorithmMeta
+  pub metadata : Option (List ℕ)
+
+-- the area of an encrypted footer: `front` bytes that hold FileCryptoMetaData, and the footer's module
+pub record IsSealedArea (s : Sealing) (plain : List ℕ) (front : ℕ) (area : List ℕ) : Type 0 where
+  pub crypto : file_crypto_at footer_place area ≡ Ok (record { algorithm = s.algorithm; key_metadata = s.metadata }, front)
+  pub sealed : IsGcm s.key (aad s.file footer_place) plain 16777216 (drop front area)
+
+-- the area of a signed footer: its own bytes, a nonce, and the tag of sealing those bytes
+pub record IsSignedArea (s : Sealing) (plain : List ℕ) (front : ℕ) (area : List ℕ) : Type 0 where
+  pub nonce : List ℕ
+  pub nonce_length : length nonce ≡ 12
+  pub layout : area ≡ plain ++ (nonce ++ (seal s.key nonce (aad s.file footer_place) plain).1)
+  pub front_is : front ≡ length plain
+  pub signing : signing_at footer_place area ≡ Ok ((Some s.algorithm, s.metadata), front)
+
+abbrev pub IsArea : FooterMode → Sealing → List ℕ → ℕ → List ℕ → Type 0
+IsArea Encrypted s plain front area = IsSealedArea s plain front area
+IsArea Signed s plain front area = IsSignedArea s plain front area
+
+abbrev pub sealing_of : Tail → Option (List ℕ) → Sealing
+sealing_of tail metadata = record { key = tail.footer_key; file = tail.file_aad; algorithm = tail.algorithm; metadata = metadata }
+
+-- a file of these bytes ends with this tail, and a reader who asks so takes it
+pub record IsTail (asks : Asks) (bytes : List ℕ) (tail : Tail) : Type 0 where
+  -- the data, the footer area and the footer's own bytes
+  pub before : List ℕ
+  pub area : List ℕ
+  pub plain : List ℕ
+  pub layout : bytes ≡ before ++ (area ++ (to_le_bytes w32 (length area) ++ magic_of tail.mode))
+  pub begins : take 4 before ≡ magic_of tail.mode
+  pub short : length area ≤ 16842752
+  pub data_end : tail.data_end ≡ length before
+  -- what stands in the area
+  pub metadata : Option (List ℕ)
+  pub front : ℕ
+  pub holds : IsArea tail.mode (sealing_of tail metadata) plain front area
+  pub at : tail.at ≡ tail.data_end + front
+  -- the reader's part
+  pub taken : asks.gcm_only ≡ true → tail.algorithm.ctr ≡ false
+  pub file_aad : IsFileAad tail.algorithm asks.prefix tail.file_aad
+  pub key : asks.answer (footer metadata) ≡ Held tail.footer_key
+  -- the footer at the front of its bytes
+  pub size : ℕ
+  pub footer : file_meta_at footer_place plain ≡ Ok (tail.footer, size)
+
+-- the tail that is defined by reading is the one that the format lays out, and there is no other
+abbrev pub TailsAreLaidOut : Type 0
+TailsAreLaidOut = (asks : Asks) (bytes : List ℕ) (tail : Tail) → AreBytes bytes → (tail_of asks bytes ≡ Ok tail) ↔ IsTail asks bytes tail
+
+-- and bytes that are laid out so are read to it, whatever they are
+abbrev pub LaidTailsAreRead : Type 0
+LaidTailsAreRead = (asks : Asks) (bytes : List ℕ) (tail : Tail) → IsTail asks bytes tail → tail_of asks bytes ≡ Ok tail

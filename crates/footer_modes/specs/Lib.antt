@@ -1,0 +1,7 @@
+pub mod Causes
+pub mod Ends
+pub mod IsTail
+pub mod PlannedRead
+pub mod TailOf
+pub mod Written
+pub mod WrittenRead

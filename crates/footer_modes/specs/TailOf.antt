@@ -1,0 +1,172 @@
+-- The end of a file as a reader meets it: the ends of the file, what stands at the front of the footer area, the
+-- algorithm, the associated data, the key, the footer's bytes with their tag, and the footer's fields and rules. The
+-- first refusal in this order ends the reading.
+use Rattle.std.specs.Prelude.{ℕ, ◌+◌, Bool, true, false, nat_lt, ◌==◌, ◌&&◌, if◌then◌else◌, List, [], ◌++◌, length, take, drop, Option, Some, None, Result, Ok, Err}
+use Rattle.std.specs.Str.{bytes_eq}
+use Rattle.pme_base.specs.declared.refusal.Cause.TheVariants.{BadTag, BadFooterLength, NotEncrypted, PrefixNeeded, PrefixUnused, PrefixDiffers, FooterKeyMissing, AlgorithmRefused, TooLarge, NoFile}
+use Rattle.pme_base.specs.declared.refusal.Detail.TheVariants.{Nothing, Tags, Hexes}
+use Rattle.pme_base.specs.declared.refusal.Cause.{Cause}
+use Rattle.pme_base.specs.declared.refusal.Detail.{Detail}
+use Rattle.pme_base.specs.declared.refusal.Refusal.{Refusal}
+use Rattle.pme_base.specs.Refusals.{refusal_at, pair_refusal, plain_refusal}
+use Rattle.pme_base.specs.Steps.{◌>>=◌}
+use Rattle.gcm_seal.specs.Gcm.{gctr, tag_of}
+use Rattle.module_aad.specs.Aad.{aad}
+use Rattle.crypto_module.specs.Opening.{opened}
+use Rattle.key_rights.specs.declared.finder.KeyAnswer.{KeyAnswer}
+use Rattle.key_rights.specs.declared.finder.KeyAnswer.TheVariants.{Held, Absent, Refused}
+use Rattle.key_rights.specs.Finding.{Asked, footer}
+use Rattle.parquet_types.specs.declared.file_meta.AlgorithmMeta.{AlgorithmMeta}
+use Rattle.parquet_types.specs.declared.file_meta.FileCrypto.{FileCrypto}
+use Rattle.parquet_types.specs.declared.file_meta.FileMeta.{FileMeta}
+use Rattle.parquet_fields.specs.Calls.{file_crypto_at, signing_at, split_signing}
+use Rattle.parquet_meta.specs.Footer.{file_meta_at}
+use Rattle.footer_modes.specs.declared.head.Head.{Head}
+use Rattle.footer_modes.specs.declared.mode.FooterMode.{FooterMode}
+use Rattle.footer_modes.specs.declared.mode.FooterMode.TheVariants.{Encrypted, Signed}
+use Rattle.footer_modes.specs.declared.tail.Tail.{Tail}
+use Rattle.footer_modes.specs.Ends.{footer_place, ends_of, area_of}
+
+-- what a reader brings: the answers of its finder of keys, a prefix of the associated data where it supplies one, and
+-- whether it takes AES_GCM_V1 alone
+pub record Asks : Type 0 where
+  pub answer : Asked → KeyAnswer
+  pub prefix : Option (List ℕ)
+  pub gcm_only : Bool
+
+abbrev pub asks_of : (Asked → KeyAnswer) → Option (List ℕ) → Bool → Asks
+asks_of answer prefix gcm_only = record { answer = answer; prefix = prefix; gcm_only = gcm_only }
+
+-- a refusal of the footer as a whole
+abbrev pub refused : {T : Type 0} → Cause → Detail → Result T Refusal
+refused cause d = Err (refusal_at cause footer_place 0 d)
+
+-- at the front of the area of an encrypted footer FileCryptoMetaData stands, and the module follows it
+abbrev pub sealed_head : FileCrypto × ℕ → Head
+sealed_head read = record { algorithm = read.0.algorithm; metadata = read.0.key_metadata; size = read.1 }
+
+-- the area of a signed footer is the footer itself, a nonce of 12 bytes and a tag of 16, in an area of `room` bytes
+-- whose length field stands at this offset
+abbrev pub signed_head : ℕ → ℕ → Option AlgorithmMeta → Option (List ℕ) → ℕ → Result Head Refusal
+signed_head at room None metadata size = refused NotEncrypted Nothing
+signed_head at room (Some algorithm) metadata size =
+    if room == size + 28 then Ok (record { algorithm = algorithm; metadata = metadata; size = size })
+    else Err (pair_refusal BadFooterLength footer_place at room (size + 28))
+
+abbrev pub head_of : FooterMode → ℕ → List ℕ → Result Head Refusal
+head_of Encrypted data_end area = do
+  read ← file_crypto_at footer_place area
+  Ok (sealed_head read)
+head_of Signed data_end area = do
+  read ← split_signing (signing_at footer_place area)
+  signed_head (data_end + length area) (length area) read.0 read.1 read.2
+
+-- the algorithm is one that the reader takes
+abbrev pub allowed : Bool → AlgorithmMeta → Result Unit Refusal
+allowed gcm_only algorithm = if gcm_only && algorithm.ctr then refused AlgorithmRefused Nothing else Ok tt
+
+-- a count is within its limit
+abbrev pub within_limit : ℕ → ℕ → Result Unit Refusal
+within_limit limit count = if nat_lt limit count then Err (pair_refusal TooLarge footer_place 0 count limit) else Ok tt
+
+abbrev pub stored_within : Option (List ℕ) → Result Unit Refusal
+stored_within None = Ok tt
+stored_within (Some stored) = within_limit 1024 (length stored)
+
+-- a stored prefix that is supplied too
+abbrev pub same_prefix : List ℕ → List ℕ → Result (List ℕ) Refusal
+same_prefix stored supplied = if bytes_eq stored supplied then Ok stored else refused PrefixDiffers (Hexes stored supplied)
+
+-- the prefix of the associated data: the one that the file stores, which a supplied one must equal; or the supplied one
+-- exactly where the file asks for it; or none
+abbrev pub prefix_of : Option (List ℕ) → Bool → Option (List ℕ) → Result (List ℕ) Refusal
+prefix_of (Some stored) supply None = Ok stored
+prefix_of (Some stored) supply (Some supplied) = same_prefix stored supplied
+prefix_of None true None = refused PrefixNeeded Nothing
+prefix_of None true (Some supplied) = Ok supplied
+prefix_of None false None = Ok []
+prefix_of None false (Some supplied) = refused PrefixUnused Nothing
+
+-- what the associated data of the file's modules begins with
+abbrev pub aad_of : AlgorithmMeta → Option (List ℕ) → Result (List ℕ) Refusal
+aad_of algorithm supplied = do
+  _ ← stored_within algorithm.prefix
+  _ ← within_limit 64 (length algorithm.unique)
+  prefix ← prefix_of algorithm.prefix algorithm.supply supplied
+  Ok (prefix ++ algorithm.unique)
+
+abbrev pub key_of : KeyAnswer → Result (List ℕ) Refusal
+key_of (Held key) = Ok key
+key_of Absent = refused FooterKeyMissing Nothing
+key_of (Refused cause d) = refused cause d
+
+-- the tag that sealing these bytes gives
+abbrev pub signature : List ℕ → List ℕ → List ℕ → List ℕ → List ℕ
+signature key associated nonce plain = tag_of key nonce associated (gctr key nonce 2 plain)
+
+-- these bytes, if the stored tag is the one expected; `at` is the offset of the nonce
+abbrev pub checked : ℕ → List ℕ → List ℕ → List ℕ → Result (List ℕ) Refusal
+checked at expected stored plain =
+    if bytes_eq expected stored then Ok plain else Err (refusal_at BadTag footer_place at (Tags expected stored))
+
+-- an area whose first `size` bytes are signed by the nonce and the tag that follow them
+abbrev pub checked_area : List ℕ → List ℕ → ℕ → ℕ → List ℕ → Result (List ℕ) Refusal
+checked_area key associated at size area =
+    checked at (signature key associated (take 12 (drop size area)) (take size area)) (drop 12 (drop size area)) (take size area)
+
+-- the footer's bytes: the plaintext of the module that fills the rest of the area, or the signed bytes themselves. The
+-- first `size` bytes of the area come before the module or the nonce, which stands at the offset `at` of the file.
+abbrev pub plain_of : FooterMode → List ℕ → List ℕ → ℕ → ℕ → List ℕ → Result (List ℕ) Refusal
+plain_of Encrypted key file at size area = opened key (aad file footer_place) footer_place at 16777216 true (drop size area)
+plain_of Signed key file at size area = checked_area key (aad file footer_place) at size area
+
+-- the footer at the front of its bytes
+abbrev pub footer_of : List ℕ → Result FileMeta Refusal
+footer_of plain = do
+  read ← file_meta_at footer_place plain
+  Ok read.0
+
+-- the tail by the footer area, which stands at the offset `data_end`
+abbrev pub area_tail : Asks → FooterMode → ℕ → List ℕ → Result Tail Refusal
+area_tail asks mode data_end area = do
+  head ← head_of mode data_end area
+  _ ← allowed asks.gcm_only head.algorithm
+  file ← aad_of head.algorithm asks.prefix
+  key ← key_of (asks.answer (footer head.metadata))
+  plain ← plain_of mode key file (data_end + head.size) head.size area
+  meta ← footer_of plain
+  Ok (record {
+    mode = mode;
+    algorithm = head.algorithm;
+    file_aad = file;
+    footer = meta;
+    footer_key = key;
+    data_end = data_end;
+    at = data_end + head.size;
+  })
+
+-- the tail of a file with these bytes
+abbrev pub tail_of : Asks → List ℕ → Result Tail Refusal
+tail_of asks bytes = do
+  ends ← ends_of bytes
+  area_tail asks ends.mode ends.data_end (area_of ends bytes)
+
+-- of a file that may not be there
+abbrev pub file_tail : Asks → Option (List ℕ) → Result Tail Refusal
+file_tail asks None = Err (plain_refusal NoFile)
+file_tail asks (Some bytes) = tail_of asks bytes
+
+-- the metadata of the footer's key alone
+abbrev pub area_metadata : FooterMode → ℕ → List ℕ → Result (Option (List ℕ)) Refusal
+area_metadata mode data_end area = do
+  head ← head_of mode data_end area
+  Ok head.metadata
+
+abbrev pub metadata_of : List ℕ → Result (Option (List ℕ)) Refusal
+metadata_of bytes = do
+  ends ← ends_of bytes
+  area_metadata ends.mode ends.data_end (area_of ends bytes)
+
+abbrev pub file_key_metadata : Option (List ℕ) → Result (Option (List ℕ)) Refusal
+file_key_metadata None = Err (plain_refusal NoFile)
+file_key_metadata (Some bytes) = metadata_of bytes

@@ -1,0 +1,178 @@
+// The two ends of a file.
+ghost use Rattle.std.specs.Prelude.{◌≡◌, ◌+◌, ◌<◌, ◌≤◌, ◌^◌, true, length, OnOk, IfOk, IfErr, IfSome, vec_len};
+ghost use Rattle.std.specs.FinMap.{get};
+ghost use Rattle.pme_base.specs.Outside.{bytes_of};
+ghost use Rattle.pme_base.specs.Refusals.{is_free};
+ghost use Rattle.pme_base.specs.Steps.{Answers, Quiet, ReadsFail};
+ghost use Rattle.footer_modes.specs.Causes.{is_ends_cause, is_reading_cause};
+ghost use Rattle.footer_modes.specs.Ends as defined;
+
+use crate::mode::FooterMode;
+use crate::reading::{read_exactly, read_trouble};
+use pme_base::{Cause, Detail, Files, OutOfMemory, Place, Refusal, plain_refusal, refusal_at};
+use std::alloc::Global;
+
+/// The shortest file: two magics, and between them the length of an empty area.
+const SHORTEST: u64 = 12;
+
+/// The longest footer area: a footer of 16,777,216 bytes, and what belongs to it.
+const LONGEST_AREA: u64 = 16_842_752;
+
+/// What the ends of a file tell: the footer's mode, the offset of the footer area, and its length in bytes.
+#[derive(Clone, Copy, Debug, PartialEq, Eq, Drop)]
+pub(crate) struct Ends {
+    pub mode: FooterMode,
+    pub data_end: u64,
+    pub area: usize,
+}
+
+/// Reads the ends of the file `name`.
+pub(crate) fn file_ends<F: Files>(files: &mut F, name: &str) -> Result<Ends, Refusal>
+    ensures answer { IfSome (F.published files.old) (λ told. Answers result (defined.file_ends (get told name.now))) }
+    ensures inside { IfOk result (λ ends. IfSome (F.published files.old) (λ told. defined.IsInside ends (bytes_of told name.now))) }
+    ensures small { IfOk result (λ ends. ends.area ≤ 16842752) }
+    ensures offset { IfOk result (λ ends. ends.data_end + ends.area + 8 < 2 ^ 64) }
+    ensures published { F.published files.new ≡ F.published files.old }
+    ensures pending { OnOk result (F.pending files.new ≡ F.pending files.old) }
+    ensures given { F.given files.new ≤ F.given files.old + 12 }
+    ensures reads { ReadsFail (F.faults files.old) (F.faults files.new) result }
+    ensures causes { IfErr result (λ refusal. is_ends_cause refusal.cause ≡ true) }
+{
+    match files.size(name) {
+        Ok(Some(size)) => ends_at(files, name, size),
+        Ok(None) => Err(plain_refusal(Cause::NoFile)),
+        Err(trouble) => Err(read_trouble(trouble)),
+    }
+}
+
+/// The same of a file that is there, with its size in bytes.
+fn ends_at<F: Files>(files: &mut F, name: &str, size: u64) -> Result<Ends, Refusal>
+    ensures answer { IfSome (F.published files.old) (λ told. size ≡ length (bytes_of told name.now) → Answers result (defined.ends_of (bytes_of told name.now))) }
+    ensures inside { IfOk result (λ ends. ends.data_end + ends.area + 8 ≡ size) }
+    ensures small { IfOk result (λ ends. ends.area ≤ 16842752) }
+    ensures published { F.published files.new ≡ F.published files.old }
+    ensures pending { OnOk result (F.pending files.new ≡ F.pending files.old) }
+    ensures given { F.given files.new ≤ F.given files.old + 12 }
+    ensures reads { ReadsFail (F.faults files.old) (F.faults files.new) result }
+    ensures causes { IfErr result (λ refusal. is_ends_cause refusal.cause ≡ true) }
+{
+    if size < SHORTEST {
+        let detail = Detail::Pair(SHORTEST, size);
+        return Err(refusal_at(Cause::Truncated, Place::file(), 0, detail));
+    }
+    let mut front = [0; 4];
+    read_exactly(files, name, 0, &mut front)?;
+    let mut back = [0; 8];
+    read_exactly(files, name, size - 8, &mut back)?;
+    ends_within(size, &front, &back)
+}
+
+/// The ends by the first four bytes of a file and its last eight.
+fn ends_within(size: u64, front: &[u8; 4], back: &[u8; 8]) -> Result<Ends, Refusal>
+    requires { 12 ≤ size }
+    ensures answer { result ≡ defined.ends_within size front.now back.now }
+    ensures inside { IfOk result (λ ends. ends.data_end + ends.area + 8 ≡ size) }
+    ensures small { IfOk result (λ ends. ends.area ≤ 16842752) }
+    ensures quiet { Quiet result }
+    ensures causes { IfErr result (λ refusal. is_ends_cause refusal.cause ≡ true) }
+{
+    let mode = mode_of(size - 4, &back[4..])?;
+    begins(mode, front)?;
+    let [b0, b1, b2, b3, _, _, _, _] = *back;
+    area_at(size, mode, u32::from_le_bytes([b0, b1, b2, b3]))
+}
+
+/// The mode by the last magic, which stands at this offset.
+fn mode_of(at: u64, magic: &[u8]) -> Result<FooterMode, Refusal>
+    ensures answer { result ≡ defined.mode_of at magic.now }
+    ensures quiet { Quiet result }
+    ensures causes { IfErr result (λ refusal. is_ends_cause refusal.cause ≡ true) }
+{
+    if magic == b"PARE".as_slice() {
+        return Ok(FooterMode::Encrypted);
+    }
+    if magic == b"PAR1".as_slice() {
+        return Ok(FooterMode::Signed);
+    }
+    Err(bad_magic(at))
+}
+
+/// Checks that the file begins with the mode's magic.
+fn begins(mode: FooterMode, front: &[u8]) -> Result<(), Refusal>
+    ensures answer { result ≡ defined.begins mode front.now }
+    ensures quiet { Quiet result }
+    ensures causes { IfErr result (λ refusal. is_ends_cause refusal.cause ≡ true) }
+{
+    let same = match mode {
+        FooterMode::Encrypted => front == b"PARE".as_slice(),
+        FooterMode::Signed => front == b"PAR1".as_slice(),
+    };
+    if same { Ok(()) } else { Err(bad_magic(0)) }
+}
+
+fn bad_magic(at: u64) -> Refusal
+    ensures { result ≡ defined.bad_magic at }
+{
+    refusal_at(Cause::BadMagic, Place::file(), at, Detail::Nothing)
+}
+
+/// The area of this length, which ends right before the length field, in a file of this size.
+fn area_at(size: u64, mode: FooterMode, count: u32) -> Result<Ends, Refusal>
+    requires { 12 ≤ size }
+    ensures answer { result ≡ defined.area_at size mode count }
+    ensures inside { IfOk result (λ ends. ends.data_end + ends.area + 8 ≡ size) }
+    ensures small { IfOk result (λ ends. ends.area ≤ 16842752) }
+    ensures quiet { Quiet result }
+    ensures causes { IfErr result (λ refusal. is_ends_cause refusal.cause ≡ true) }
+{
+    let area = u64::from(count);
+    if area > size - SHORTEST {
+        let detail = Detail::Pair(area, size - SHORTEST);
+        return Err(refusal_at(Cause::BadFooterLength, Place::footer(), size - 8, detail));
+    }
+    if area > LONGEST_AREA {
+        let detail = Detail::Pair(area, LONGEST_AREA);
+        return Err(refusal_at(Cause::TooLarge, Place::footer(), size - 8, detail));
+    }
+    Ok(Ends {
+        mode,
+        data_end: size - 8 - area,
+        area: area as usize,
+    })
+}
+
+/// Reads the footer area.
+pub(crate) fn area_of<F: Files>(
+    alloc: Global,
+    files: &mut F,
+    name: &str,
+    ends: &Ends,
+) -> Result<Vec<u8>, Refusal>
+    requires small { ends.now.area ≤ 16842752 }
+    ensures told { IfOk result (λ area. IfSome (F.published files.old) (λ told. defined.IsInside ends.now (bytes_of told name.now) → area.items ≡ defined.area_of ends.now (bytes_of told name.now))) }
+    ensures size { IfOk result (λ area. vec_len area ≡ ends.now.area) }
+    ensures free { IfErr result (λ refusal. IfSome (F.published files.old) (λ told. defined.IsInside ends.now (bytes_of told name.now) → is_free refusal.cause ≡ true)) }
+    ensures published { F.published files.new ≡ F.published files.old }
+    ensures pending { OnOk result (F.pending files.new ≡ F.pending files.old) }
+    ensures given { F.given files.new ≤ F.given files.old + ends.now.area }
+    ensures reads { ReadsFail (F.faults files.old) (F.faults files.new) result }
+    ensures causes { IfErr result (λ refusal. is_reading_cause refusal.cause ≡ true) }
+{
+    let mut area = match buffer_of(alloc, ends.area) {
+        Ok(area) => area,
+        Err(OutOfMemory) => return Err(plain_refusal(Cause::OutOfMemory)),
+    };
+    match read_exactly(files, name, ends.data_end, area.as_mut_slice()) {
+        Ok(()) => Ok(area),
+        Err(refusal) => Err(refusal),
+    }
+}
+
+/// A buffer of `size` bytes.
+fn buffer_of(alloc: Global, size: usize) -> Result<Vec<u8>, OutOfMemory>
+    ensures { IfOk result (λ buffer. vec_len buffer ≡ size) }
+{
+    let mut buffer = Vec::new(alloc);
+    buffer.resize(size, 0)?;
+    Ok(buffer)
+}

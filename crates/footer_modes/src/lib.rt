@@ -1,0 +1,23 @@
+// The end of an encrypted Parquet file ("Parquet Modular Encryption", "Encrypted footer mode" and "Plaintext footer
+// mode"): which mode its footer has, how it is sealed or signed, under which associated data and by which key, and
+// what it says once its tag was checked. Both ends are written too, and what was written is read.
+#![tactic(auto)]
+
+mod associated;
+mod ends;
+mod head;
+mod laws;
+mod mode;
+mod opening;
+mod reader;
+mod reading;
+mod tail;
+mod tail_laws;
+mod writing;
+
+pub use laws::tails_are_laid_out;
+pub use mode::FooterMode;
+pub use reader::{footer_key_metadata, read_tail};
+pub use tail::{ReadOptions, Tail};
+pub use tail_laws::{footer_areas, planned_tails_are_read, written_tails_are_read};
+pub use writing::{write_encrypted_tail, write_signed_tail};

@@ -1,0 +1,224 @@
+ghost use Rattle.std.specs.Prelude.{◌≡◌, ◌<◌, length, IfOk};
+ghost use Rattle.std.specs.List.{AllByRecursion};
+ghost use Rattle.plain_pages.specs.Columns.{rows_of};
+
+use parquet_types::{ColumnKind, ColumnSpec, FlatSchema};
+use plain_pages::{CellRef, Table};
+use pme_base::{Bytes, OutOfMemory};
+use std::alloc::{AllocError, Global};
+use std::test::Fail;
+use table_text::{
+    CellTexts, Choice, TableRefusal, cell_text, generate, header_text, row_text, table_from_csv,
+};
+
+// A text, where `/` stands for a line feed, and behind a space what it is read as.
+const CASES: &str = r#"
+id:int64,name:text?,secret:bytes/1,ann,00ff/2,\N,/3,,ab/4,"a,b",cd Int64(1);Bytes([97,110,110]);Bytes([0,255]);Int64(2);Null;Bytes([]);Int64(3);Bytes([]);Bytes([171]);Int64(4);Bytes([97,44,98]);Bytes([205]);
+id:int64,name:text?,secret:bytes/1,ann 1,3
+id:int64/01 1,0
+a:int64,b:int64/x,1,2 1,2
+// 0,0
+ 0,0
+a:int32//1// Int32(1);
+a:b:int32/-2147483648 Int32(-2147483648);
+a:int32/2147483648 1,0
+a:int32/-2147483649 1,0
+a:int64/9223372036854775808 1,0
+a:int32/-0 1,0
+a:int32/- 1,0
+a:int32/+1 1,0
+a:int32?/\N Null;
+a:int32/\N 1,0
+a:bool?,b:bool/true,false Bool(true);Bool(false);
+a:bool/True 1,0
+a:text/"" Bytes([]);
+a:text/\\N Bytes([92,78]);
+a:text/\N 1,0
+a:text?/\x 1,0
+a:float,b:double/00000001,0000000000000002 Bytes([0,0,0,1]);Bytes([0,0,0,0,0,0,0,2]);
+a:float/000001 1,0
+a:int96/000000000000000000000003 Bytes([0,0,0,0,0,0,0,0,0,0,0,3]);
+a:fixed(2)/0102 Bytes([1,2]);
+a:fixed(2)/01 1,0
+a:fixed(0)/ 0,0
+a:fixed(02)/ 0,0
+a:fixed(65537)/ 0,0
+a:bytes/AB 1,0
+a:int32,a:bool/ 0,1
+a:int32,b:int32,a:bool,c:what/ 0,2
+:int32/ 0,0
+a:int32??/ 0,0
+a/ 0,0
+"#;
+
+// Texts that are written as they stand.
+const TEXTS: [&str; 6] = [
+    "id:int64,name:text?,secret:bytes\n1,ann,00ff\n2,\\N,\n3,,ab\n4,\"a,b\",cd\n",
+    "a:int32\n",
+    "a:text\n\"\"\n",
+    "a:text\n\"say \"\"so\"\"\"\n\"one\ntwo\r\"\n\\\\\n\\\\N\n\\\\\\\\\na\\\\b\n",
+    "\"a,b:c:bytes?\",\"\"\":text\"\n\\N,\\\\N\n,\n",
+    "a:bool?,b:int32?,c:int64?,d:int96?,e:float?,f:double?,g:bytes?,h:text?,i:fixed(3)?\n\\N,\\N,\\N,\\N,\\N,\\N,\\N,\\N,\\N\ntrue,-2147483648,-9223372036854775808,000102030405060708090a0b,7f800000,fff0000000000000,00ff,\\\\x,00000a\nfalse,2147483647,9223372036854775807,ffffffffffffffffffffffff,00000000,0000000000000001,,,ffffff\n",
+];
+
+// The table of seed 11, worked out by another program.
+const GENERATED: &str = "id:int64,flag:bool?,city:text?,amount:int32,blob:bytes\n\
+    0,true,city-436,-403927,02b62624\n\
+    1,true,city-697,179966,1003af91\n\
+    2,true,city-408,782347,6da33b45\n\
+    3,\\N,city-658,-410723,327505d8\n\
+    4,true,\\N,6163,b400d8c1\n\
+    5,\\N,city-80,46044,3914859d\n\
+    6,false,\\N,575850,26211b70\n\
+    7,false,city-633,139891,9e7d1517\n";
+
+fn shown(alloc: Global, table: &Table) -> Result<String, AllocError> {
+    let mut text = String::new(alloc);
+    for row in 0..table.rows() {
+        for column in 0..table.columns() {
+            let cell = format!(in alloc; "{:?};", table.cell(column, row))?;
+            text.push_str(cell.as_str())?;
+        }
+    }
+    Ok(text)
+}
+
+fn told(alloc: Global, case: &str) -> Result<String, AllocError> {
+    let text = case.replace(alloc, '/', "\n")?;
+    if text.len() > 268_435_456 {
+        return Err(AllocError);
+    }
+    match table_from_csv(alloc, text.as_bytes()) {
+        Ok(table) => shown(alloc, &table),
+        Err(TableRefusal::Bad { entry, field }) => format!(in alloc; "{entry},{field}"),
+        Err(TableRefusal::OutOfMemory) => Err(AllocError),
+    }
+}
+
+#[test]
+fn reads_tables_or_tells_the_first_bad_field(rt: HostRuntime) -> Result<(), Fail> {
+    for line in CASES.lines() {
+        if let Some((case, expected)) = line.rsplit_once(' ') {
+            let got = told(rt.alloc(), case)?;
+            let bare = got.replace(rt.alloc(), ' ', "")?;
+            assert_eq!(rt; bare.as_str(), expected);
+        }
+    }
+    Ok(())
+}
+
+fn schema_of(alloc: Global, table: &Table) -> Result<FlatSchema, OutOfMemory>
+    ensures { IfOk result (λ schema. length schema ≡ length table.now) }
+{
+    let mut schema = FlatSchema::new(alloc);
+    for column in 0..table.columns() {
+        let spec = table.spec(column);
+        let copy = ColumnSpec {
+            name: Bytes::copy_of(alloc, spec.name.as_slice())?,
+            kind: spec.kind,
+            optional: spec.optional,
+            text: spec.text,
+        };
+        schema.push(copy)?;
+    }
+    Ok(schema)
+}
+
+fn all_columns(alloc: Global, count: usize) -> Result<Choice, OutOfMemory>
+    ensures number { IfOk result (λ chosen. length chosen ≡ count) }
+    ensures inside { IfOk result (λ chosen. AllByRecursion (λ column. column < count) chosen) }
+{
+    let mut chosen = Choice::new(alloc);
+    for column in 0..count {
+        chosen.push(column)?;
+    }
+    Ok(chosen)
+}
+
+#[tactic(auto, using(table_text::proofs::TableLemmas::cell_fits))]
+fn push_cell(table: &Table, column: usize, row: usize, into: &mut Bytes) -> Result<(), OutOfMemory>
+    requires column { column < length table.now }
+    requires row { row < rows_of table.now }
+{
+    cell_text(table.spec(column), table.cell(column, row), into)
+}
+
+fn row_cells(alloc: Global, table: &Table, row: usize) -> Result<CellTexts, OutOfMemory>
+    requires { row < rows_of table.now }
+    ensures { IfOk result (λ cells. length cells ≡ length table.now) }
+{
+    let mut cells = CellTexts::new(alloc);
+    for column in 0..table.columns() {
+        let mut cell = Bytes::new(alloc);
+        push_cell(table, column, row, &mut cell)?;
+        cells.push(cell)?;
+    }
+    Ok(cells)
+}
+
+fn text_of(alloc: Global, table: &Table) -> Result<Bytes, OutOfMemory> {
+    let mut text = Bytes::new(alloc);
+    if table.columns() == 0 {
+        return Ok(text);
+    }
+    let schema = schema_of(alloc, table)?;
+    let chosen = all_columns(alloc, table.columns())?;
+    header_text(alloc, &schema, &chosen, &mut text)?;
+    for row in 0..table.rows() {
+        let cells = row_cells(alloc, table, row)?;
+        row_text(alloc, &cells, &mut text)?;
+    }
+    Ok(text)
+}
+
+#[test]
+fn writes_what_it_reads(rt: HostRuntime) -> Result<(), Fail> {
+    for text in TEXTS {
+        if text.len() <= 268_435_456 {
+            match table_from_csv(rt.alloc(), text.as_bytes()) {
+                Ok(table) => {
+                    let written = text_of(rt.alloc(), &table)?;
+                    assert_eq!(rt; written.as_slice(), text.as_bytes());
+                }
+                Err(refusal) => assert_eq!(rt; refusal, TableRefusal::OutOfMemory),
+            }
+        }
+    }
+    Ok(())
+}
+
+#[test]
+fn generates_the_table_of_a_seed(rt: HostRuntime) -> Result<(), Fail> {
+    let table = generate(rt.alloc(), 11, 8)?;
+    let text = text_of(rt.alloc(), &table)?;
+    assert_eq!(rt; text.as_slice(), GENERATED.as_bytes());
+    let many = generate(rt.alloc(), u64::MAX, 2000)?;
+    let mut sum: u64 = 0;
+    for byte in text_of(rt.alloc(), &many)?.as_slice() {
+        sum = sum.wrapping_mul(31).wrapping_add(u64::from(*byte));
+    }
+    assert_eq!(rt; sum, 1899429893415495943_u64);
+    let none = generate(rt.alloc(), 0, 0)?;
+    assert_eq!(rt; (none.columns(), none.rows()), (5, 0));
+    Ok(())
+}
+
+#[test]
+fn writes_cells_and_records(rt: HostRuntime) -> Result<(), Fail> {
+    let spec = ColumnSpec {
+        name: Bytes::new(rt.alloc()),
+        kind: ColumnKind::Int64,
+        optional: true,
+        text: false,
+    };
+    let mut cell = Bytes::new(rt.alloc());
+    cell_text(&spec, CellRef::Int64(-12), &mut cell)?;
+    cell_text(&spec, CellRef::Null, &mut cell)?;
+    assert_eq!(rt; cell.as_slice(), b"-12\\N".as_slice());
+    let mut cells = CellTexts::new(rt.alloc());
+    cells.push(Bytes::new(rt.alloc()))?;
+    let mut text = Bytes::new(rt.alloc());
+    row_text(rt.alloc(), &cells, &mut text)?;
+    assert_eq!(rt; text.as_slice(), b"\"\"\n".as_slice());
+    Ok(())
+}

@@ -1,0 +1,64 @@
+-- The sizes of what fields spell.
+use Rattle.std.proofs.Common.{Result, ◌≡◌, ◌==◌, ℕ, ◌≤◌, Option, Some, None, Ok, Err, List, drop, length, get_or, refl, ◌∙◌, arith, inl, inr}
+use Rattle.std.proofs.lemmas.Bool.{cases_Bool, eqb-true}
+use Rattle.std.proofs.lemmas.List.{length-drop}
+use Rattle.std.specs.List.{list_any}
+use Rattle.std.specs.Char.{is_ascii_uppercase}
+use Rattle.std.specs.Option.{option_and_then}
+use Rattle.std.specs.Result.{result_ok}
+use Rattle.std.specs.Str.{is_utf8}
+use Rattle.hex.specs.Hex.{decode_of}
+use Rattle.hex.specs.declared.error.FromHexError.{FromHexError}
+use Rattle.hex.proofs.HexLemmas.{decode_of-ok}
+use Rattle.parquet_types.specs.declared.column.ColumnKind.{ColumnKind}
+use Rattle.parquet_types.specs.declared.column.ColumnKind.TheVariants.{Boolean, Int32, Int64, Int96, Float, Double, ByteArray, Fixed}
+use Rattle.plain_pages.specs.Cells.{bytes}
+use Rattle.plain_pages.specs.Columns.{IsValueOf}
+use Rattle.table_text.specs.Cells.{IsOfSize, hex_read, of_size, sized_read, text_read}
+
+ok_found : (r : Result (List ℕ) FromHexError) (xs : List ℕ) → result_ok r ≡ Some xs → r ≡ Ok xs
+ok_found (Ok ys) xs e = let same : ys ≡ xs = cc e in rw same refl
+ok_found (Err w) xs e = cc e
+
+pub hex_size : (field xs : List ℕ) (n : ℕ) → hex_read field ≡ Some xs → length field ≤ n → length xs ≤ n
+unfolding hex_read
+hex_size field xs n e small = elim (cases_Bool (list_any is_ascii_uppercase field)) [
+  | inl upper ↦ cc (rw upper at e)
+  | inr lower ↦
+      let size = (decode_of-ok field xs (ok_found (decode_of field) xs (rw lower at e))).2 in
+      omega arith
+]
+
+pub text_size : (field xs : List ℕ) (n : ℕ) → text_read field ≡ Some xs → length field ≤ n → length xs ≤ n
+unfolding text_read
+text_size field xs n e small = elim (cases_Bool (is_utf8 field)) [
+  | inr other ↦ cc (rw other at e)
+  | inl utf8 ↦ elim (cases_Bool (get_or field 0 0 == 92)) [
+    | inr plain ↦ let same : field ≡ xs = cc (rw (utf8, plain) at e) in rw (← same) small
+    | inl first ↦ elim (cases_Bool (get_or field 1 0 == 92)) [
+      | inr alone ↦ cc (rw (utf8, first, alone) at e)
+      | inl second ↦ let same : drop 1 field ≡ xs = cc (rw (utf8, first, second) at e) in rw (← same, length-drop 1 field) (omega arith)
+    ]
+  ]
+]
+
+of_size_is : (size : ℕ) (o : Option (List ℕ)) (xs : List ℕ) → option_and_then (of_size size) o ≡ Some xs → length xs ≡ size
+of_size_is size None xs e = cc e
+of_size_is size (Some ys) xs e = elim (cases_Bool (length ys == size)) [
+  | inl same ↦ let whole : ys ≡ xs = cc (rw same at e) in rw (← whole) (eqb-true _ _ same)
+  | inr other ↦ cc (rw other at e)
+]
+
+value_of_size : (kind : ColumnKind) (size : ℕ) (xs : List ℕ) → IsOfSize size kind → length xs ≡ size → IsValueOf kind (bytes xs)
+value_of_size Boolean size xs h e = absurd h
+value_of_size Int32 size xs h e = absurd h
+value_of_size Int64 size xs h e = absurd h
+value_of_size Int96 size xs h e = e ∙ h
+value_of_size Float size xs h e = e ∙ h
+value_of_size Double size xs h e = e ∙ h
+value_of_size ByteArray size xs h e = absurd h
+value_of_size (Fixed n) size xs h e = e ∙ h
+
+pub sized_value : (kind : ColumnKind) (size : ℕ) (field xs : List ℕ) → IsOfSize size kind → sized_read size field ≡ Some xs → IsValueOf kind (bytes xs)
+unfolding sized_read
+sized_value kind size field xs h e = value_of_size kind size xs h (of_size_is size (hex_read field) xs e)

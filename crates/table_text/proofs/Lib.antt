@@ -1,0 +1,9 @@
+pub mod CellBack
+pub mod CellLemmas
+pub mod DrawLemmas
+pub mod HeaderBack
+pub mod HeaderLemmas
+pub mod Numerals
+pub mod RecordLemmas
+pub mod TableBack
+pub mod TableLemmas

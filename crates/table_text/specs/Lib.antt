@@ -1,0 +1,9 @@
+pub mod Cells
+pub mod Generated
+pub mod Headers
+pub mod Numbers
+pub mod ReadingBack
+pub mod Records
+pub mod Tables
+pub mod Texts
+pub mod Types

@@ -1,0 +1,106 @@
+-- What is written of a table is read back as it.
+use Rattle.std.specs.Prelude.{◌≡◌, ℕ, zero, suc, ◌+◌, ◌<◌, ◌≤◌, Bool, true, false, List, [], ◌∷◌, ◌++◌, map, length, slice_get, slice_index_or, Some, Ok}
+use Rattle.std.specs.FinSet.{contains, empty, insert}
+use Rattle.std.specs.List.{AllByRecursion}
+use Rattle.std.specs.Str.{is_utf8}
+use Rattle.hex.specs.Hex.{IsBytes}
+use Rattle.csv.specs.Machine.{next_record}
+use Rattle.csv.specs.Reading.{default_config, strip_bom}
+use Rattle.csv.specs.Writing.{default_writer, row_text}
+use Rattle.csv.specs.declared.parser.State.TheVariants as st
+use Rattle.parquet_types.specs.declared.column.ColumnKind.{ColumnKind}
+use Rattle.parquet_types.specs.declared.column.ColumnKind.TheVariants.{ByteArray, Fixed}
+use Rattle.parquet_types.specs.declared.column.ColumnSpec.{ColumnSpec}
+use Rattle.plain_pages.specs.Cells.{Cell, null, bytes}
+use Rattle.plain_pages.specs.Columns.{AreCellsOf, Column, IsCellOf, IsTable, rows_of}
+use Rattle.table_text.specs.declared.column_type.ColumnType.{ColumnType}
+use Rattle.table_text.specs.Cells.{cell_read}
+use Rattle.table_text.specs.Headers.{Names, heading_read, is_name}
+use Rattle.table_text.specs.Tables.{table}
+use Rattle.table_text.specs.Texts.{cell_text, heading_text, headings}
+use Rattle.table_text.specs.Types.{column_type}
+
+-- text is read back where it is UTF-8; any other bytes are
+abbrev pub AreSpelled : ColumnKind → Bool → List ℕ → Type 0
+AreSpelled ByteArray true xs = is_utf8 xs ≡ true
+AreSpelled _ _ xs = IsBytes xs
+
+abbrev pub IsSpelled : ColumnSpec → Cell → Type 0
+IsSpelled spec (bytes xs) = AreSpelled spec.kind spec.text xs
+IsSpelled spec _ = Unit {0}
+
+-- a cell of a column is read back
+abbrev pub CellsReadBack : Type 0
+CellsReadBack = (spec : ColumnSpec) (cell : Cell) → IsCellOf spec cell → IsSpelled spec cell → cell_read spec (cell_text spec cell) ≡ Some cell
+
+-- a type that has a word: only bytes are text, and a fixed size is 1 to 65,536
+abbrev pub HasWord : ColumnKind → Bool → Type 0
+HasWord ByteArray text = Unit {0}
+HasWord (Fixed size) text = (text ≡ false) × (1 ≤ size) × (size ≤ 65536)
+HasWord _ text = text ≡ false
+
+-- a column that a header can name
+pub record IsNameable (spec : ColumnSpec) : Type 0 where
+  pub name : is_name spec.name ≡ true
+  pub word : HasWord spec.kind spec.text
+
+abbrev pub type_of : ColumnSpec → ColumnType
+type_of spec = column_type spec.optional spec.text spec.kind
+
+-- what a header names a column is read back
+abbrev pub HeadingsReadBack : Type 0
+HeadingsReadBack = (spec : ColumnSpec) → IsNameable spec → heading_read (heading_text spec) ≡ Some (spec.name, type_of spec)
+
+-- a record is read back as its fields, whatever follows it
+abbrev pub RecordsReadBack : Type 0
+RecordsReadBack =
+    (fields : List (List ℕ)) (tail : List ℕ) → 0 < length fields
+    → next_record default_config st.StartRecord [] [] (row_text default_writer fields ++ tail) ≡ Some (fields, st.StartRecord, tail)
+
+-- ---- whole tables
+-- columns that a header can name, each by a name that none before it has
+abbrev pub AreNameable : Names → List Column → Type 0
+AreNameable earlier [] = Unit {0}
+AreNameable earlier (column ∷ columns) =
+    IsNameable column.spec × (contains earlier column.spec.name ≡ false) × AreNameable (insert earlier column.spec.name) columns
+
+-- columns whose cells they may hold and are read back
+abbrev pub AreSpelledColumns : List Column → Type 0
+AreSpelledColumns [] = Unit {0}
+AreSpelledColumns (column ∷ columns) =
+    AreCellsOf column.spec column.cells × AllByRecursion (IsSpelled column.spec) column.cells × AreSpelledColumns columns
+
+-- the texts of a row's cells
+abbrev pub row_fields : ℕ → List Column → List (List ℕ)
+row_fields row columns = map (λ (column : Column). cell_text column.spec (slice_index_or column.cells row null)) columns
+
+-- the same of so many rows from one on
+abbrev pub rows_fields : ℕ → ℕ → List Column → List (List (List ℕ))
+rows_fields row zero columns = []
+rows_fields row (suc rows) columns = row_fields row columns ∷ rows_fields (row + 1) rows columns
+
+-- columns are the chosen ones of a schema
+abbrev pub AreChosen : List ColumnSpec → List ℕ → List Column → Type 0
+AreChosen schema [] [] = Unit {0}
+AreChosen schema (place ∷ places) (column ∷ columns) = (slice_get schema place ≡ Some column.spec) × AreChosen schema places columns
+AreChosen schema _ _ = ⊥
+
+-- the header of chosen columns, and the rows of a table
+abbrev pub table_records : List ColumnSpec → List ℕ → List Column → List (List (List ℕ))
+table_records schema chosen columns = headings schema chosen ∷ rows_fields 0 (rows_of columns) columns
+
+-- records one behind the other
+abbrev pub records_text : List (List (List ℕ)) → List ℕ
+records_text [] = []
+records_text (fields ∷ records) = row_text default_writer fields ++ records_text records
+
+-- what is written of a table: the text of its header, and of a record for each row
+abbrev pub text_of_table : List ColumnSpec → List ℕ → List Column → List ℕ
+text_of_table schema chosen columns = records_text (table_records schema chosen columns)
+
+-- a table is read back, unless its first name begins with a byte order mark, which a reader passes over
+abbrev pub TablesReadBack : Type 0
+TablesReadBack =
+    (schema : List ColumnSpec) (chosen : List ℕ) (columns : List Column) → 0 < length columns → IsTable columns → AreChosen schema chosen columns
+    → AreNameable empty columns → AreSpelledColumns columns
+    → strip_bom (text_of_table schema chosen columns) ≡ text_of_table schema chosen columns → table (text_of_table schema chosen columns) ≡ Ok columns

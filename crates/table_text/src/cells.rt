@@ -1,0 +1,95 @@
+// The values that fields of a record spell.
+ghost use Rattle.std.specs.Prelude.{◌≡◌, IfOk, option_map};
+ghost use Rattle.std.specs.List.{list_any};
+ghost use Rattle.std.specs.Char.{is_ascii_uppercase};
+ghost use Rattle.std.specs.Str.{is_utf8 as utf8_test};
+ghost use Rattle.table_text.specs.Cells as cells;
+
+use hex::FromHexError;
+use pme_base::OutOfMemory;
+use std::alloc::Global;
+use std::str;
+
+#[tactic(auto, unfolding(crate::specs::Cells::truth_read))]
+pub fn truth_read(field: &[u8]) -> Option<bool>
+    ensures { result ≡ cells.truth_read field.now }
+{
+    if field == b"true".as_slice() {
+        Some(true)
+    } else if field == b"false".as_slice() {
+        Some(false)
+    } else {
+        None
+    }
+}
+
+/// The bytes of hexadecimal digits in lower case.
+#[tactic(auto, unfolding(crate::specs::Cells::hex_read))]
+pub fn hex_read(alloc: Global, field: &[u8]) -> Result<Option<Vec<u8>>, OutOfMemory>
+    ensures { IfOk result (λ o. option_map (λ v. v.items) o ≡ cells.hex_read field.now) }
+{
+    if has_uppercase(field) {
+        return Ok(None);
+    }
+    match hex::decode(alloc, field) {
+        Ok(bytes) => Ok(Some(bytes)),
+        Err(error) => match error {
+            FromHexError::OutOfMemory => Err(OutOfMemory),
+            _ => Ok(None),
+        },
+    }
+}
+
+/// So many bytes of such digits.
+#[tactic(auto, unfolding(crate::specs::Cells::sized_read))]
+pub fn sized_read(alloc: Global, size: usize, field: &[u8]) -> Result<Option<Vec<u8>>, OutOfMemory>
+    ensures { IfOk result (λ o. option_map (λ v. v.items) o ≡ cells.sized_read size field.now) }
+{
+    match hex_read(alloc, field)? {
+        Some(bytes) => Ok(of_size(size, bytes)),
+        None => Ok(None),
+    }
+}
+
+fn of_size(size: usize, bytes: Vec<u8>) -> Option<Vec<u8>>
+    ensures { option_map (λ v. v.items) result ≡ cells.of_size size bytes.items }
+{
+    if bytes.len() == size {
+        Some(bytes)
+    } else {
+        None
+    }
+}
+
+/// Text, without the backslash in front of one at its beginning.
+#[tactic(auto, unfolding(crate::specs::Cells::text_read))]
+pub fn text_read<'a>(field: &'a [u8]) -> Option<&'a [u8]>
+    ensures { option_map (λ s. s.now) result ≡ cells.text_read field.now }
+{
+    if !is_utf8(field) {
+        return None;
+    }
+    if field.is_empty() || field[0] != b'\\' {
+        return Some(field);
+    }
+    if field.len() > 1 && field[1] == b'\\' {
+        return Some(&field[1..]);
+    }
+    None
+}
+
+/// Whether these bytes are text.
+pub fn is_utf8(bytes: &[u8]) -> bool
+    ensures { result ≡ utf8_test bytes.now }
+{
+    match str::from_utf8(bytes) {
+        Ok(_) => true,
+        Err(_) => false,
+    }
+}
+
+fn has_uppercase(field: &[u8]) -> bool
+    ensures { result ≡ list_any is_ascii_uppercase field.now }
+{
+    field.iter().any(|byte| byte.is_ascii_uppercase())
+}

@@ -1,0 +1,99 @@
+// The types of columns, as a table's header names them.
+ghost use Rattle.std.specs.Prelude.{◌≡◌};
+ghost use Rattle.table_text.specs.Types as types;
+
+use crate::numbers::is_plain;
+use parquet_types::ColumnKind;
+use std::str;
+
+/// What a column's type says: its physical type, whether nulls may stand in it, and whether its bytes are text.
+#[derive(Clone, Copy, Debug, PartialEq, Eq, Drop)]
+pub struct ColumnType {
+    pub kind: ColumnKind,
+    pub optional: bool,
+    pub text: bool,
+}
+
+/// The type that a word names, with `?` behind it where the column may hold nulls.
+#[tactic(auto, unfolding(crate::specs::Types::type_read))]
+pub fn type_read(word: &[u8]) -> Option<ColumnType>
+    ensures { result ≡ types.type_read word.now }
+{
+    match word.last() {
+        Some(b'?') => type_named(true, &word[..word.len() - 1]),
+        _ => type_named(false, word),
+    }
+}
+
+#[tactic(auto, unfolding(crate::specs::Types::type_named))]
+fn type_named(optional: bool, word: &[u8]) -> Option<ColumnType>
+    ensures { result ≡ types.type_named optional word.now }
+{
+    if word == b"bool".as_slice() {
+        Some(column_type(optional, false, ColumnKind::Boolean))
+    } else if word == b"int32".as_slice() {
+        Some(column_type(optional, false, ColumnKind::Int32))
+    } else if word == b"int64".as_slice() {
+        Some(column_type(optional, false, ColumnKind::Int64))
+    } else if word == b"int96".as_slice() {
+        Some(column_type(optional, false, ColumnKind::Int96))
+    } else if word == b"float".as_slice() {
+        Some(column_type(optional, false, ColumnKind::Float))
+    } else if word == b"double".as_slice() {
+        Some(column_type(optional, false, ColumnKind::Double))
+    } else if word == b"bytes".as_slice() {
+        Some(column_type(optional, false, ColumnKind::ByteArray))
+    } else if word == b"text".as_slice() {
+        Some(column_type(optional, true, ColumnKind::ByteArray))
+    } else {
+        let size = fixed_read(word)?;
+        Some(column_type(optional, false, ColumnKind::Fixed(size)))
+    }
+}
+
+fn column_type(optional: bool, text: bool, kind: ColumnKind) -> ColumnType
+    ensures { result ≡ types.column_type optional text kind }
+{
+    ColumnType {
+        kind,
+        optional,
+        text,
+    }
+}
+
+/// The size between `fixed(` and `)`.
+#[tactic(auto, unfolding(crate::specs::Types::fixed_read))]
+fn fixed_read(word: &[u8]) -> Option<u32>
+    ensures { result ≡ types.fixed_read word.now }
+{
+    if word.len() < 7 || &word[..6] != b"fixed(".as_slice() || word[word.len() - 1] != b')' {
+        return None;
+    }
+    size_read(&word[6..word.len() - 1])
+}
+
+#[tactic(auto, unfolding(crate::specs::Types::size_read))]
+fn size_read(digits: &[u8]) -> Option<u32>
+    ensures { result ≡ types.size_read digits.now }
+{
+    if !is_plain(digits) {
+        return None;
+    }
+    let Ok(text) = str::from_utf8(digits) else {
+        return None;
+    };
+    match text.parse::<u32>() {
+        Ok(size) => when_size(size),
+        Err(_) => None,
+    }
+}
+
+fn when_size(size: u32) -> Option<u32>
+    ensures { result ≡ types.when_size size }
+{
+    if 1 <= size && size <= 65536 {
+        Some(size)
+    } else {
+        None
+    }
+}

@@ -1,0 +1,232 @@
+// Cells, records and headers as text.
+ghost use Rattle.std.specs.Prelude.{◌≡◌, ◌<◌, ◌++◌, length, slice_get, codes, if◌then◌else◌, IfOk, OnOk, OnErr};
+ghost use Rattle.std.specs.List.{AllByRecursion};
+ghost use Rattle.csv.specs.Records.{fields_of, partial_of};
+ghost use Rattle.csv.specs.Writing.{default_writer, row_text as record_text};
+ghost use Rattle.std.specs.Fmt.{decimal, signed_decimal};
+ghost use Rattle.hex.specs.Hex.{encode_lower};
+ghost use Rattle.plain_pages.specs.Cells.{cell_of};
+ghost use Rattle.plain_pages.specs.Columns.{IsCellOf};
+ghost use Rattle.table_text.specs.Texts as texts;
+
+use csv::{ByteRecord, WriterBuilder};
+use parquet_types::{ColumnKind, ColumnSpec, FlatSchema};
+use plain_pages::CellRef;
+use pme_base::{Bytes, OutOfMemory, Rows};
+use std::alloc::Global;
+
+/// Numbers of columns.
+pub type Choice = Rows<usize>;
+
+/// The texts of a record's cells.
+pub type CellTexts = Rows<Bytes>;
+
+/// Adds the text of a cell of a column to the end of `into`: `true` or `false`, a number in decimal, text with one
+/// more backslash where it begins with one, other bytes as lower-case hex, and `\N` for a null. A refusal leaves
+/// `into` unchanged.
+pub fn cell_text(spec: &ColumnSpec, cell: CellRef<'_>, into: &mut Bytes) -> Result<(), OutOfMemory>
+    requires { IsCellOf spec.now (cell_of cell) }
+    ensures written { OnOk result (into.new ≡ into.old ++ texts.cell_text spec.now (cell_of cell.entry)) }
+    ensures unchanged { OnErr result (into.new ≡ into.old) }
+{
+    match cell {
+        CellRef::Null => into.extend(b"\\N"),
+        CellRef::Bool(value) => push_truth(value, into),
+        CellRef::Int32(number) => push_number(i64::from(number), into),
+        CellRef::Int64(number) => push_number(number, into),
+        CellRef::Bytes(bytes) => push_bytes(spec.kind, spec.text, bytes, into),
+    }
+}
+
+fn push_truth(value: bool, into: &mut Bytes) -> Result<(), OutOfMemory>
+    ensures written { OnOk result (into.new ≡ into.old ++ (if value then codes "true" else codes "false")) }
+    ensures unchanged { OnErr result (into.new ≡ into.old) }
+{
+    if value {
+        into.extend(b"true")
+    } else {
+        into.extend(b"false")
+    }
+}
+
+fn push_number(number: i64, into: &mut Bytes) -> Result<(), OutOfMemory>
+    ensures written { OnOk result (into.new ≡ into.old ++ signed_decimal number) }
+    ensures unchanged { OnErr result (into.new ≡ into.old) }
+{
+    let alloc = allocator_of(into);
+    let text = number.to_string(alloc)?;
+    into.extend(text.as_bytes())
+}
+
+fn push_bytes(
+    kind: ColumnKind,
+    text: bool,
+    bytes: &[u8],
+    into: &mut Bytes,
+) -> Result<(), OutOfMemory>
+    ensures written { OnOk result (into.new ≡ into.old ++ texts.bytes_text kind text bytes.now) }
+    ensures unchanged { OnErr result (into.new ≡ into.old) }
+{
+    match kind {
+        ColumnKind::ByteArray => {
+            if text {
+                push_escaped(bytes, into)
+            } else {
+                push_hex(bytes, into)
+            }
+        }
+        _ => push_hex(bytes, into),
+    }
+}
+
+fn push_escaped(text: &[u8], into: &mut Bytes) -> Result<(), OutOfMemory>
+    ensures written { OnOk result (into.new ≡ into.old ++ texts.escaped text.now) }
+    ensures unchanged { OnErr result (into.new ≡ into.old) }
+{
+    if text.is_empty() || text[0] != b'\\' {
+        return into.extend(text);
+    }
+    let mut escaped = Bytes::new(allocator_of(into));
+    escaped.push(b'\\')?;
+    escaped.extend(text)?;
+    into.extend(escaped.as_slice())
+}
+
+fn push_hex(bytes: &[u8], into: &mut Bytes) -> Result<(), OutOfMemory>
+    ensures written { OnOk result (into.new ≡ into.old ++ encode_lower bytes.now) }
+    ensures unchanged { OnErr result (into.new ≡ into.old) }
+{
+    let text = hex::encode(allocator_of(into), bytes)?;
+    into.extend(text.as_bytes())
+}
+
+/// Where the memory of `bytes` comes from.
+fn allocator_of(bytes: &mut Bytes) -> Global
+    ensures { bytes.new ≡ bytes.old }
+{
+    let items = bytes.take();
+    let alloc = *items.allocator();
+    *bytes = Bytes::from_vec(items);
+    alloc
+}
+
+/// Adds the text of a record to the end of `into`: its cells with commas between them, each in quotes where it needs
+/// them, and a line feed. There is at least one cell. A refusal leaves `into` unchanged.
+pub fn row_text(alloc: Global, cells: &CellTexts, into: &mut Bytes) -> Result<(), OutOfMemory>
+    requires { 0 < length cells.now }
+    ensures written { OnOk result (into.new ≡ into.old ++ record_text default_writer cells.now) }
+    ensures unchanged { OnErr result (into.new ≡ into.old) }
+{
+    let record = record_of(alloc, cells)?;
+    let text = text_of(alloc, &record)?;
+    into.extend(text.as_slice())
+}
+
+fn record_of(alloc: Global, cells: &CellTexts) -> Result<ByteRecord, OutOfMemory>
+    ensures { IfOk result (λ row. fields_of row ≡ cells.now) }
+{
+    let mut record = ByteRecord::new(alloc);
+    for cell in cells.as_slice() {
+        record.push_field(cell.as_slice())?;
+    }
+    Ok(record)
+}
+
+fn text_of(alloc: Global, record: &ByteRecord) -> Result<Vec<u8>, OutOfMemory>
+    ensures { IfOk result (λ text. text.items ≡ record_text default_writer (fields_of record.now)) }
+{
+    let mut writer = WriterBuilder::new().from_writer(Vec::new(alloc));
+    if writer.write_byte_record(record).is_err() {
+        return Err(OutOfMemory);
+    }
+    match writer.into_inner() {
+        Ok(text) => Ok(text),
+        Err(_) => Err(OutOfMemory),
+    }
+}
+
+/// Adds the header of the chosen columns to the end of `into`: each as `name:type`, with `?` behind it where nulls may
+/// stand. There is at least one, and each is the number of a column. A refusal leaves `into` unchanged.
+pub fn header_text(
+    alloc: Global,
+    schema: &FlatSchema,
+    chosen: &Choice,
+    into: &mut Bytes,
+) -> Result<(), OutOfMemory>
+    requires some { 0 < length chosen.now }
+    requires inside { AllByRecursion (λ column. column < length schema.now) chosen.now }
+    ensures written { OnOk result (into.new ≡ into.old ++ record_text default_writer (texts.headings schema.now chosen.now)) }
+    ensures unchanged { OnErr result (into.new ≡ into.old) }
+{
+    let record = header_of(alloc, schema, chosen)?;
+    let text = text_of(alloc, &record)?;
+    into.extend(text.as_slice())
+}
+
+fn header_of(alloc: Global, schema: &FlatSchema, chosen: &Choice) -> Result<ByteRecord, OutOfMemory>
+    ensures { IfOk result (λ row. fields_of row ≡ texts.headings schema.now chosen.now) }
+{
+    let mut record = ByteRecord::new(alloc);
+    for column in chosen.as_slice() {
+        let heading = heading_of(alloc, schema, *column)?;
+        record.push_field(heading.as_slice())?;
+    }
+    Ok(record)
+}
+
+fn heading_of(alloc: Global, schema: &FlatSchema, column: usize) -> Result<Bytes, OutOfMemory>
+    ensures { IfOk result (λ heading. heading ≡ texts.heading_of (slice_get schema.now column)) }
+{
+    match schema.get(column) {
+        Some(spec) => heading_text(alloc, spec),
+        None => Ok(Bytes::new(alloc)),
+    }
+}
+
+/// The field of a header that names the column and its type.
+pub fn heading_text(alloc: Global, spec: &ColumnSpec) -> Result<Bytes, OutOfMemory>
+    ensures { IfOk result (λ heading. heading ≡ texts.heading_text spec.now) }
+{
+    let mut heading = Bytes::copy_of(alloc, spec.name.as_slice())?;
+    heading.push(b':')?;
+    push_kind(alloc, spec.kind, spec.text, &mut heading)?;
+    if spec.optional {
+        heading.push(b'?')?;
+    }
+    Ok(heading)
+}
+
+fn push_kind(
+    alloc: Global,
+    kind: ColumnKind,
+    text: bool,
+    into: &mut Bytes,
+) -> Result<(), OutOfMemory>
+    ensures { OnOk result (into.new ≡ into.old ++ texts.kind_text kind text) }
+{
+    match kind {
+        ColumnKind::Boolean => into.extend(b"bool"),
+        ColumnKind::Int32 => into.extend(b"int32"),
+        ColumnKind::Int64 => into.extend(b"int64"),
+        ColumnKind::Int96 => into.extend(b"int96"),
+        ColumnKind::Float => into.extend(b"float"),
+        ColumnKind::Double => into.extend(b"double"),
+        ColumnKind::ByteArray => {
+            if text {
+                into.extend(b"text")
+            } else {
+                into.extend(b"bytes")
+            }
+        }
+        ColumnKind::Fixed(size) => push_fixed(alloc, size, into),
+    }
+}
+
+fn push_fixed(alloc: Global, size: u32, into: &mut Bytes) -> Result<(), OutOfMemory>
+    ensures { OnOk result (into.new ≡ into.old ++ (codes "fixed(" ++ decimal size ++ codes ")")) }
+{
+    let digits = size.to_string(alloc)?;
+    into.extend(b"fixed(")?;
+    into.extend(digits.as_bytes())?;
+    into.extend(b")")
+}
