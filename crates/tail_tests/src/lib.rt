@@ -4,4 +4,6 @@
 #[cfg(test)]
 mod reading;
 #[cfg(test)]
+mod sealed;
+#[cfg(test)]
 mod writing;
