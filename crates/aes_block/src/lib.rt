@@ -14,8 +14,6 @@ mod key;
 mod lanes;
 mod rounds;
 mod substitution;
-#[cfg(test)]
-mod tests;
 
 pub use key::{AesKey, BadKeyLength};
 

@@ -8,8 +8,6 @@ ghost use Rattle.crypto_module.specs.Opening.{OpensExactly, CtrOpensExactly, Gcm
 mod ctr_module;
 mod frame;
 mod gcm_module;
-#[cfg(test)]
-mod tests;
 mod writing;
 
 pub use ctr_module::read_ctr;

@@ -9,8 +9,6 @@ ghost use Rattle.gcm_seal.specs.Vectors.{zero_key, zero_nonce, tag_1, ciphertext
 mod counter_mode;
 mod hasher;
 mod sealed;
-#[cfg(test)]
-mod tests;
 
 pub use hasher::Hasher;
 pub use sealed::{BadTag, ctr_in_place, open_in_place, seal_in_place, sign, tag};

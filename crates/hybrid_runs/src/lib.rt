@@ -6,8 +6,6 @@ ghost use Rattle.hybrid_runs.specs.Written.{BitsReadBack};
 
 mod bits;
 mod reading;
-#[cfg(test)]
-mod tests;
 mod varint;
 mod writing;
 

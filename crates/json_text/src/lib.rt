@@ -12,8 +12,6 @@ mod building;
 mod codings;
 mod laws;
 mod reading;
-#[cfg(test)]
-mod tests;
 mod writing;
 
 pub use access::{first_other_than_text, list_at, text_at, truth_at, whole_number_at};

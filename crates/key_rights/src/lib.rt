@@ -11,8 +11,6 @@ mod id_key;
 mod id_keys;
 mod keys;
 mod nonces;
-#[cfg(test)]
-mod tests;
 
 pub use failing_finder::FailingFinder;
 pub use finder::{KeyAnswer, KeyFinder, KeyTrouble};

@@ -6,8 +6,6 @@ ghost use Rattle.module_aad.specs.Aad.{DistinctPlaces, DistinctFiles};
 
 mod file_aad;
 mod suffix;
-#[cfg(test)]
-mod tests;
 
 pub use file_aad::{AadRefusal, FileAad};
 

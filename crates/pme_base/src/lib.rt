@@ -19,8 +19,6 @@ mod rows;
 mod std_files;
 mod std_random;
 mod std_sink;
-#[cfg(test)]
-mod tests;
 mod text;
 mod words;
 

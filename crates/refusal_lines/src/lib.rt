@@ -8,8 +8,6 @@ mod detail_text;
 mod line;
 mod pieces;
 mod place_text;
-#[cfg(test)]
-mod tests;
 mod words;
 
 pub use cause_table::{Class, cause_name, class_of, status_number};

@@ -1,6 +1,6 @@
 ghost use Rattle.std.specs.Prelude.{None};
 
-use crate::{
+use pme_base::{
     Bytes, Failed, Files, MemFiles, MemRandom, MemSink, NameSet, Place, PlaceKind, Random, Rows,
     Sink, StdFiles, StdRandom, StdSink, Text, Trouble, Words, read_full,
 };

@@ -1,8 +1,8 @@
-use crate::{
+use aes_block::AesKey;
+use crypto_module::{
     ModuleKind, ModuleRefusal, OpenModule, extent, filling_extent, read_ctr, read_gcm, write_ctr,
     write_gcm,
 };
-use aes_block::AesKey;
 use pme_base::{Bytes, Cause, Detail, Place, Refusal, refusal_at};
 use std::test::Fail;
 

@@ -1,4 +1,4 @@
-use crate::{
+use json_text::{
     ListBuilder, ObjectBuilder, Value, base64_is_exact, base64_text, bytes_of_base64, bytes_of_hex,
     first_other_than_text, hex_is_exact, hex_text, list_at, read_json, text_at, text_value,
     text_value_of_bytes, truth_at, truth_value, whole_number_at, whole_number_value, write_json,

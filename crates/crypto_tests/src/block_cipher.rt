@@ -1,4 +1,4 @@
-use crate::{AesKey, BadKeyLength};
+use aes_block::{AesKey, BadKeyLength};
 use std::test::Fail;
 
 // FIPS 197, appendix C.

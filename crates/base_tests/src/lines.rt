@@ -1,8 +1,8 @@
-use crate::{push_decimal, push_hex, push_place, push_signed, push_text, refusal_line};
 use pme_base::{
     Bytes, Cause, Detail, ItemWord, PagePart, Place, PlaceKind, Refusal, StructName, ThriftFault,
     refusal_at,
 };
+use refusal_lines::{push_decimal, push_hex, push_place, push_signed, push_text, refusal_line};
 use std::process::Abort;
 use std::test::Fail;
 

@@ -1,4 +1,4 @@
-use crate::{first_values, run_length, write_bits, write_run};
+use hybrid_runs::{first_values, run_length, write_bits, write_run};
 use std::test::Fail;
 
 // Width, count, bytes, and the values that are there. `88 c6 fa` is the example of parquet-format's Encodings.md.

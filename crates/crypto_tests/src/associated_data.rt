@@ -1,4 +1,4 @@
-use crate::{AadRefusal, FileAad};
+use module_aad::{AadRefusal, FileAad};
 use pme_base::{Place, PlaceKind};
 use std::test::Fail;
 

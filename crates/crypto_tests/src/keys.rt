@@ -1,8 +1,8 @@
-use crate::{
+use aes_block::AesKey;
+use key_rights::{
     ColumnKey, FailingFinder, FooterKey, IdKeys, KeyAnswer, KeyFinder, KeyTrouble, KeysRefusal,
     NonceOwner, NonceRefusal, NonceSet, keys_are_hex,
 };
-use aes_block::AesKey;
 use pme_base::Bytes;
 use std::alloc::Global;
 use std::test::Fail;
