@@ -1,8 +1,9 @@
 -- A column's bytes are read back as its cells.
-use Rattle.std.proofs.Common.{◌≡◌, ◌≢◌, ℕ, ℤ, zero, suc, ◌+◌, ◌<◌, ◌≤◌, nat_le, true, false, if◌then◌else◌, List, [], ◌∷◌, ◌++◌, take, drop, length, Some, FitsSigned, get_or, refl, sym, ap, ◌∙◌, arith, append_assoc, length-append}
+use Rattle.std.proofs.Common.{◌≡◌, ◌≢◌, ℕ, ℤ, suc, ◌+◌, ◌*◌, ◌/◌, ◌<◌, ◌≤◌, ◌==◌, nat_le, Bool, true, false, if◌then◌else◌, List, [], ◌∷◌, ◌++◌, take, drop, length, FitsSigned, refl, sym, ap, ◌∙◌, arith, append_assoc, length-append, below_more}
 use Rattle.std.specs.Int.{w32, w64, to_le_bytes, from_le_bytes, cast_unsigned, cast_signed}
-use Rattle.std.specs.List.{slice_get}
-use Rattle.std.proofs.lemmas.List.{append-nil, take_at, drop_at, length-map, map_push}
+use Rattle.std.proofs.Math.ListN.{get_or-append}
+use Rattle.std.proofs.Math.Seq.{get_or-append_seam}
+use Rattle.std.proofs.lemmas.List.{append-nil, take_at, drop_at, take_all, take-append-le, length-map, map_push}
 use Rattle.std.proofs.lemmas.Int.{to_z-of_z}
 use Rattle.std.proofs.Math.Facts.{Fits-of_z}
 use Rattle.std.proofs.lemmas.Nat.{from_le_bytes-to_le_bytes_4, from_le_bytes-to_le_bytes_8}
@@ -11,7 +12,7 @@ use Rattle.parquet_types.specs.declared.column.ColumnKind.TheVariants.{Boolean, 
 use Rattle.parquet_types.specs.declared.column.ColumnSpec.{ColumnSpec}
 use Rattle.plain_pages.specs.Cells.{Cell, null, bool, int32, int64, bytes}
 use Rattle.plain_pages.specs.Plain.{value_of, value_size}
-use Rattle.plain_pages.specs.Columns.{IsValueOf, IsCellOf, AreCellsOf, text_of, values_text, starts_of, level_of, levels_of, value_kept, cell_kept, cells_kept, Keeps}
+use Rattle.plain_pages.specs.Columns.{IsValueOf, IsCellOf, AreCellsOf, text_of, values_text, level_of, levels_of, value_kept, cells_kept, start_of, AreMarks, marked, Keeps}
 
 le_true : (m n : ℕ) → m ≤ n → nat_le m n ≡ true
 le_true m n h = grind arith
@@ -74,26 +75,21 @@ read_kept ByteArray cell pre rest h = kept_by ByteArray cell (text_of ByteArray 
 read_kept (Fixed n) cell pre rest h = kept_by (Fixed n) cell (text_of (Fixed n) cell) pre rest _ (reads_as (Fixed n) cell h) refl
 
 -- ---- a whole column
-kept_turn : (spec : ColumnSpec) (cell : Cell) (pre : List ℕ) (cells : List Cell) (level : ℕ) → level ≡ 1 → IsValueOf spec.kind cell
-    → cells_kept spec.kind (levels_of cells) (starts_of spec.kind (length (pre ++ text_of spec.kind cell)) cells) ((pre ++ text_of spec.kind cell) ++ values_text spec.kind cells) ≡ cells
-    → cell_kept spec.kind level (length pre) (pre ++ (text_of spec.kind cell ++ values_text spec.kind cells))
-    ∷ cells_kept spec.kind (levels_of cells) (starts_of spec.kind (length pre + length (text_of spec.kind cell)) cells) (pre ++ (text_of spec.kind cell ++ values_text spec.kind cells))
-    ≡ cell ∷ cells
-kept_turn spec cell pre cells level one value before =
-    let text = text_of spec.kind cell in
-    rw (one, read_kept spec.kind cell pre (values_text spec.kind cells) value, ← length-append pre text, ← append_assoc pre text (values_text spec.kind cells))
-    (ap (λ cs. cell ∷ cs) before)
+kept_turn : (kind : ColumnKind) (cell : Cell) (cells : List Cell) (level : ℕ) → level ≡ 1 → IsValueOf kind cell → cells_kept kind (levels_of cells) (values_text kind cells) ≡ cells
+    → cells_kept kind (level ∷ levels_of cells) (text_of kind cell ++ values_text kind cells) ≡ cell ∷ cells
+kept_turn kind cell cells level one value before =
+    let reads = reads_as kind cell value in
+    let rest : drop (value_size kind (text_of kind cell ++ values_text kind cells)) (text_of kind cell ++ values_text kind cells) ≡ values_text kind cells =
+    ap (λ n. drop n (text_of kind cell ++ values_text kind cells)) (reads.size (values_text kind cells)) ∙ drop_at (text_of kind cell) (values_text kind cells) _ refl in
+    rw (one, rest, reads.value (values_text kind cells)) (ap (λ cs. cell ∷ cs) before)
 
-pub kept_back : (spec : ColumnSpec) (pre : List ℕ) (cells : List Cell) → AreCellsOf spec cells
-    → cells_kept spec.kind (levels_of cells) (starts_of spec.kind (length pre) cells) (pre ++ values_text spec.kind cells) ≡ cells
-kept_back spec pre [] h = refl
-kept_back spec pre (null ∷ cells) h =
-    let same : length pre + 0 ≡ length pre = omega arith in
-    rw same (ap (λ cs. null ∷ cs) (kept_back spec pre cells h.1))
-kept_back spec pre (bool b ∷ cells) h = kept_turn spec (bool b) pre cells 1 refl h.0 (kept_back spec (pre ++ text_of spec.kind (bool b)) cells h.1)
-kept_back spec pre (int32 n ∷ cells) h = kept_turn spec (int32 n) pre cells 1 refl h.0 (kept_back spec (pre ++ text_of spec.kind (int32 n)) cells h.1)
-kept_back spec pre (int64 n ∷ cells) h = kept_turn spec (int64 n) pre cells 1 refl h.0 (kept_back spec (pre ++ text_of spec.kind (int64 n)) cells h.1)
-kept_back spec pre (bytes xs ∷ cells) h = kept_turn spec (bytes xs) pre cells 1 refl h.0 (kept_back spec (pre ++ text_of spec.kind (bytes xs)) cells h.1)
+pub kept_back : (spec : ColumnSpec) (cells : List Cell) → AreCellsOf spec cells → cells_kept spec.kind (levels_of cells) (values_text spec.kind cells) ≡ cells
+kept_back spec [] h = refl
+kept_back spec (null ∷ cells) h = ap (λ cs. null ∷ cs) (kept_back spec cells h.1)
+kept_back spec (bool b ∷ cells) h = kept_turn spec.kind (bool b) cells 1 refl h.0 (kept_back spec cells h.1)
+kept_back spec (int32 n ∷ cells) h = kept_turn spec.kind (int32 n) cells 1 refl h.0 (kept_back spec cells h.1)
+kept_back spec (int64 n ∷ cells) h = kept_turn spec.kind (int64 n) cells 1 refl h.0 (kept_back spec cells h.1)
+kept_back spec (bytes xs ∷ cells) h = kept_turn spec.kind (bytes xs) cells 1 refl h.0 (kept_back spec cells h.1)
 
 -- ---- one cell more
 pub values_text-append : (kind : ColumnKind) (xs ys : List Cell) → values_text kind (xs ++ ys) ≡ values_text kind xs ++ values_text kind ys
@@ -101,68 +97,91 @@ values_text-append kind [] ys = refl
 values_text-append kind (x ∷ xs) ys =
     ap (λ more. text_of kind x ++ more) (values_text-append kind xs ys) ∙ sym (append_assoc (text_of kind x) (values_text kind xs) (values_text kind ys))
 
-values_text-push : (kind : ColumnKind) (cells : List Cell) (cell : Cell) → values_text kind (cells ++ cell ∷ []) ≡ values_text kind cells ++ text_of kind cell
+pub values_text-push : (kind : ColumnKind) (cells : List Cell) (cell : Cell) → values_text kind (cells ++ cell ∷ []) ≡ values_text kind cells ++ text_of kind cell
 values_text-push kind cells cell = values_text-append kind cells (cell ∷ []) ∙ ap (λ more. values_text kind cells ++ more) (append-nil (text_of kind cell))
-
-starts_of-push : (kind : ColumnKind) (start : ℕ) (cells : List Cell) (cell : Cell)
-    → starts_of kind start (cells ++ cell ∷ []) ≡ starts_of kind start cells ++ (start + length (values_text kind cells)) ∷ []
-starts_of-push kind start [] cell = let same : start ≡ start + 0 = omega arith in ap (λ n. n ∷ []) same
-starts_of-push kind start (c ∷ cells) cell =
-    let sizes : length (text_of kind c ++ values_text kind cells) ≡ length (text_of kind c) + length (values_text kind cells) = length-append (text_of kind c) (values_text kind cells) in
-    let same : start + length (text_of kind c) + length (values_text kind cells) ≡ start + length (text_of kind c ++ values_text kind cells) = omega arith in
-    ap (λ ns. start ∷ ns) (starts_of-push kind (start + length (text_of kind c)) cells cell)
-    ∙ ap (λ n. start ∷ (starts_of kind (start + length (text_of kind c)) cells ++ n ∷ [])) same
 
 all_push : (spec : ColumnSpec) (cells : List Cell) (cell : Cell) → AreCellsOf spec cells → IsCellOf spec cell → AreCellsOf spec (cells ++ cell ∷ [])
 all_push spec [] cell h one = (one, tt)
 all_push spec (c ∷ cells) cell h one = (h.0, all_push spec cells cell h.1 one)
 
-keeps_whole : (spec : ColumnSpec) (cells : List Cell) (levels starts values : List ℕ) → Keeps spec cells levels starts values → cells_kept spec.kind levels starts values ≡ cells
-keeps_whole spec cells levels starts values k = rw (k.levels_are, k.starts_are, k.values_are) (kept_back spec [] cells k.of_spec)
+-- a mark more where there is none for the next cell
+marks_marked : (kind : ColumnKind) (cells : List Cell) (marks : List ℕ) (place : ℕ) → AreMarks kind cells marks → 16 * length marks ≡ length cells
+    → place ≡ length (values_text kind cells) → AreMarks kind cells (marks ++ place ∷ [])
+marks_marked kind cells marks place m e p =
+    let long : length (marks ++ place ∷ []) ≡ length marks + 1 = length-append marks (place ∷ []) in
+    let last : start_of kind cells (16 * length marks) ≡ length (values_text kind cells) = ap (λ cs. length (values_text kind cs)) (take_all (16 * length marks) cells m.enough) in
+    record {
+      enough = omega (arith, long, m.enough);
+      few = omega (arith, long);
+      place = rw long (below_more _ _
+          (λ k h. get_or-append marks (place ∷ []) 0 k h ∙ m.place k h)
+          (get_or-append_seam marks place [] 0 ∙ p ∙ sym last));
+    }
 
-pub keeps_push : (spec : ColumnSpec) (cells : List Cell) (cell : Cell) (levels starts values levels' starts' values' : List ℕ) → Keeps spec cells levels starts values
-    → IsCellOf spec cell → levels' ≡ levels ++ level_of cell ∷ [] → starts' ≡ starts ++ length values ∷ [] → values' ≡ values ++ text_of spec.kind cell
-    → Keeps spec (cells ++ cell ∷ []) levels' starts' values'
-keeps_push spec cells cell levels starts values levels' starts' values' k one e f g = record {
-  of_spec = all_push spec cells cell k.of_spec one;
-  levels_are = e ∙ ap (λ ls. ls ++ level_of cell ∷ []) k.levels_are ∙ sym (map_push level_of cells cell);
-  starts_are = f ∙ rw (k.starts_are, k.values_are)
-      (let none : length (values_text spec.kind cells) ≡ 0 + length (values_text spec.kind cells) = omega arith in
-      ap (λ n. starts_of spec.kind 0 cells ++ n ∷ []) none ∙ sym (starts_of-push spec.kind 0 cells cell));
-  values_are = g ∙ ap (λ vs. vs ++ text_of spec.kind cell) k.values_are ∙ sym (values_text-push spec.kind cells cell);
+-- a cell more where its mark is there
+marks_push : (kind : ColumnKind) (cells : List Cell) (cell : Cell) (marks : List ℕ) → AreMarks kind cells marks → length cells < 16 * length marks
+    → AreMarks kind (cells ++ cell ∷ []) marks
+marks_push kind cells cell marks m room =
+    let long : length (cells ++ cell ∷ []) ≡ length cells + 1 = length-append cells (cell ∷ []) in
+    record {
+      enough = omega (arith, long);
+      few = omega (arith, long, m.few);
+      place = λ k h. m.place k h ∙ ap (λ cs. length (values_text kind cs)) (sym (take-append-le (16 * k) cells (cell ∷ []) (omega (arith, m.few))));
+    }
+
+pub length-levels : (spec : ColumnSpec) (cells : List Cell) (levels marks values : List ℕ) → Keeps spec cells levels marks values → length levels ≡ length cells
+length-levels spec cells levels marks values k = ap length k.levels_are ∙ length-map cells level_of
+
+pub few_marks : (spec : ColumnSpec) (cells : List Cell) (levels marks values : List ℕ) → Keeps spec cells levels marks values → 16 * length marks ≤ length levels + 16
+few_marks spec cells levels marks values k = omega (arith, k.marks_are.few, length-levels spec cells levels marks values k)
+
+with_marks : (spec : ColumnSpec) (cells : List Cell) (levels marks values more : List ℕ) → Keeps spec cells levels marks values → AreMarks spec.kind cells more
+    → Keeps spec cells levels more values
+with_marks spec cells levels marks values more k m = record { of_spec = k.of_spec; levels_are = k.levels_are; values_are = k.values_are; marks_are = m }
+
+-- what a column keeps, with the mark that the next cell needs
+pub record Ready (spec : ColumnSpec) (cells : List Cell) (levels marks values : List ℕ) : Type 0 where
+  pub kept : Keeps spec cells levels marks values
+  pub room : length cells < 16 * length marks
+
+ready_by : (spec : ColumnSpec) (cells : List Cell) (levels marks values : List ℕ) (due : Bool) → Keeps spec cells levels marks values
+    → (length levels / 16 == length marks) ≡ due → Ready spec cells levels (if due then marks ++ length values ∷ [] else marks) values
+ready_by spec cells levels marks values true k e =
+    let whole : length levels / 16 ≡ length marks = grind arith in
+    let same : 16 * length marks ≡ length levels = omega (arith, whole, k.marks_are.enough, length-levels spec cells levels marks values k) in
+    let long : length (marks ++ length values ∷ []) ≡ length marks + 1 = length-append marks (length values ∷ []) in
+    let more = marks_marked spec.kind cells marks (length values) k.marks_are (same ∙ length-levels spec cells levels marks values k) (ap length k.values_are) in
+    record { kept = with_marks spec cells levels marks values _ k more; room = omega (arith, long, k.marks_are.enough) }
+ready_by spec cells levels marks values false k e =
+    let other : length levels / 16 ≢ length marks = grind arith in
+    record { kept = k; room = omega (arith, other, length-levels spec cells levels marks values k, k.marks_are.enough) }
+
+pub ready : (spec : ColumnSpec) (cells : List Cell) (levels marks values : List ℕ) → Keeps spec cells levels marks values
+    → Ready spec cells levels (marked (length levels) (length values) marks) values
+ready spec cells levels marks values k = ready_by spec cells levels marks values (length levels / 16 == length marks) k refl
+
+pub keeps_whole : (spec : ColumnSpec) (cells : List Cell) (levels marks values : List ℕ) → Keeps spec cells levels marks values → cells_kept spec.kind levels values ≡ cells
+keeps_whole spec cells levels marks values k = rw (k.levels_are, k.values_are) (kept_back spec cells k.of_spec)
+
+pub keeps_push : (spec : ColumnSpec) (cells : List Cell) (cell : Cell) (levels marks values levels' values' : List ℕ) → Ready spec cells levels marks values
+    → IsCellOf spec cell → levels' ≡ levels ++ level_of cell ∷ [] → values' ≡ values ++ text_of spec.kind cell
+    → Keeps spec (cells ++ cell ∷ []) levels' marks values'
+keeps_push spec cells cell levels marks values levels' values' r one e g = record {
+  of_spec = all_push spec cells cell r.kept.of_spec one;
+  levels_are = e ∙ ap (λ ls. ls ++ level_of cell ∷ []) r.kept.levels_are ∙ sym (map_push level_of cells cell);
+  values_are = g ∙ ap (λ vs. vs ++ text_of spec.kind cell) r.kept.values_are ∙ sym (values_text-push spec.kind cells cell);
+  marks_are = marks_push spec.kind cells cell marks r.kept.marks_are r.room;
 }
 
 -- the same where the cells are read from what is kept
-pub pushed_cells : (spec : ColumnSpec) (cells : List Cell) (cell : Cell) (levels starts values levels' starts' values' : List ℕ) → Keeps spec cells levels starts values
-    → IsCellOf spec cell → levels' ≡ levels ++ level_of cell ∷ [] → starts' ≡ starts ++ length values ∷ [] → values' ≡ values ++ text_of spec.kind cell
-    → cells_kept spec.kind levels' starts' values' ≡ cells ++ cell ∷ []
-pushed_cells spec cells cell levels starts values levels' starts' values' k one e f g =
-    keeps_whole spec (cells ++ cell ∷ []) levels' starts' values' (keeps_push spec cells cell levels starts values levels' starts' values' k one e f g)
+pub pushed_cells : (spec : ColumnSpec) (cells : List Cell) (cell : Cell) (levels marks values levels' values' : List ℕ) → Ready spec cells levels marks values
+    → IsCellOf spec cell → levels' ≡ levels ++ level_of cell ∷ [] → values' ≡ values ++ text_of spec.kind cell
+    → cells_kept spec.kind levels' values' ≡ cells ++ cell ∷ []
+pushed_cells spec cells cell levels marks values levels' values' r one e g =
+    keeps_whole spec (cells ++ cell ∷ []) levels' marks values' (keeps_push spec cells cell levels marks values levels' values' r one e g)
 
-pub pushed_keeps : (spec : ColumnSpec) (cells : List Cell) (cell : Cell) (levels starts values levels' starts' values' : List ℕ) → Keeps spec cells levels starts values
-    → IsCellOf spec cell → levels' ≡ levels ++ level_of cell ∷ [] → starts' ≡ starts ++ length values ∷ [] → values' ≡ values ++ text_of spec.kind cell
-    → Keeps spec (cells_kept spec.kind levels' starts' values') levels' starts' values'
-pushed_keeps spec cells cell levels starts values levels' starts' values' k one e f g =
-    rw (pushed_cells spec cells cell levels starts values levels' starts' values' k one e f g) (keeps_push spec cells cell levels starts values levels' starts' values' k one e f g)
-
--- ---- one cell read
-length-starts_of : (kind : ColumnKind) (start : ℕ) (cells : List Cell) → length (starts_of kind start cells) ≡ length cells
-length-starts_of kind start [] = refl
-length-starts_of kind start (c ∷ cells) = ap suc (length-starts_of kind (start + length (text_of kind c)) cells)
-
-pub length-levels : (spec : ColumnSpec) (cells : List Cell) (levels starts values : List ℕ) → Keeps spec cells levels starts values → length levels ≡ length cells
-length-levels spec cells levels starts values k = ap length k.levels_are ∙ length-map cells level_of
-
-pub length-starts : (spec : ColumnSpec) (cells : List Cell) (levels starts values : List ℕ) → Keeps spec cells levels starts values → length starts ≡ length cells
-length-starts spec cells levels starts values k = ap length k.starts_are ∙ length-starts_of spec.kind 0 cells
-
-pub slice_get-kept : (kind : ColumnKind) (levels starts values : List ℕ) (row : ℕ) → row < length levels → row < length starts
-    → slice_get (cells_kept kind levels starts values) row ≡ Some (cell_kept kind (get_or levels row 0) (get_or starts row 0) values)
-slice_get-kept kind [] starts values row h l = absurd (omega arith)
-slice_get-kept kind (level ∷ levels) [] values row h l = absurd (omega arith)
-slice_get-kept kind (level ∷ levels) (start ∷ starts) values zero h l = refl
-slice_get-kept kind (level ∷ levels) (start ∷ starts) values (suc row) h l = slice_get-kept kind levels starts values row (omega arith) (omega arith)
-
-pub cell_kept-value : (kind : ColumnKind) (level start : ℕ) (values : List ℕ) → level ≢ 0 → cell_kept kind level start values ≡ value_kept kind start values
-cell_kept-value kind zero start values h = absurd (h refl)
-cell_kept-value kind (suc level) start values h = refl
+pub pushed_keeps : (spec : ColumnSpec) (cells : List Cell) (cell : Cell) (levels marks values levels' values' : List ℕ) → Ready spec cells levels marks values
+    → IsCellOf spec cell → levels' ≡ levels ++ level_of cell ∷ [] → values' ≡ values ++ text_of spec.kind cell
+    → Keeps spec (cells_kept spec.kind levels' values') levels' marks values'
+pushed_keeps spec cells cell levels marks values levels' values' r one e g =
+    rw (pushed_cells spec cells cell levels marks values levels' values' r one e g) (keeps_push spec cells cell levels marks values levels' values' r one e g)

@@ -1,13 +1,12 @@
 -- The levels and the bytes of some rows of a column.
-use Rattle.std.proofs.Common.{◌≡◌, ℕ, zero, suc, ◌+◌, ◌-◌, ◌<◌, ◌≤◌, List, [], ◌∷◌, ◌++◌, take, drop, length, get_or, Some, sym, ap, ◌∙◌, arith, append_assoc, length-append, length-take}
-use Rattle.std.specs.List.{slice_get}
-use Rattle.std.proofs.Math.Seq.{take-add}
+use Rattle.std.proofs.Common.{◌≡◌, ◌≢◌, ℕ, zero, suc, ◌+◌, ◌*◌, ◌-◌, ◌<◌, ◌≤◌, List, [], ◌∷◌, ◌++◌, take, drop, length, get_or, refl, sym, ap, ◌∙◌, arith, append_assoc, length-append, length-take}
+use Rattle.std.proofs.Math.Seq.{take-add, take-suc}
 use Rattle.std.proofs.lemmas.List.{take_at, drop_at, take-append-drop, take_all, take-map, drop-map}
 use Rattle.parquet_types.specs.declared.column.ColumnKind.{ColumnKind}
 use Rattle.parquet_types.specs.declared.column.ColumnSpec.{ColumnSpec}
-use Rattle.plain_pages.specs.Cells.{Cell}
-use Rattle.plain_pages.specs.Columns.{text_of, values_text, starts_of, level_of, levels_of, rows_between, IsCellOf, AreCellsOf, Keeps}
-use Rattle.plain_pages.proofs.Kept.{values_text-append}
+use Rattle.plain_pages.specs.Cells.{Cell, null, bool, int32, int64, bytes}
+use Rattle.plain_pages.specs.Columns.{text_of, values_text, level_of, levels_of, rows_between, size_kept, value_kept, start_of, IsValueOf, IsCellOf, AreCellsOf, Keeps}
+use Rattle.plain_pages.proofs.Kept.{reads_as, read_kept, values_text-append, values_text-push}
 
 take_between : (from to : ℕ) (cells : List Cell) → from ≤ to → take to cells ≡ take from cells ++ rows_between from to cells
 take_between from to cells h = let e : to ≡ from + (to - from) = omega arith in ap (λ n. take n cells) e ∙ take-add from (to - from) cells
@@ -50,25 +49,102 @@ levels_cut from to cells levels e =
     ∙ ap (take (to - from)) (drop-map level_of from cells)
     ∙ take-map level_of (to - from) (drop from cells)
 
-starts_at : (kind : ColumnKind) (start : ℕ) (cells : List Cell) (row : ℕ) → row < length cells
-    → get_or (starts_of kind start cells) row 0 ≡ start + length (values_text kind (take row cells))
-starts_at kind start [] row h = absurd (omega arith)
-starts_at kind start (c ∷ cells) zero h = let e : start ≡ start + 0 = omega arith in e
-starts_at kind start (c ∷ cells) (suc row) h =
-    let sizes : length (text_of kind c ++ values_text kind (take row cells)) ≡ length (text_of kind c) + length (values_text kind (take row cells)) = length-append (text_of kind c) (values_text kind (take row cells)) in
-    let e : start + length (text_of kind c) + length (values_text kind (take row cells)) ≡ start + length (text_of kind c ++ values_text kind (take row cells)) = omega arith in
-    starts_at kind (start + length (text_of kind c)) cells row (omega arith) ∙ e
+-- ---- one row
+split_at : (cells : List Cell) (row : ℕ) → row < length cells → cells ≡ take row cells ++ (get_or cells row null ∷ drop (suc row) cells)
+split_at [] row h = absurd (omega arith)
+split_at (c ∷ cells) zero h = refl
+split_at (c ∷ cells) (suc row) h = ap (λ cs. c ∷ cs) (split_at cells row (omega arith))
 
-pub start_read : (spec : ColumnSpec) (cells : List Cell) (levels starts values : List ℕ) (row start : ℕ) → Keeps spec cells levels starts values → row < length cells
-    → start ≡ get_or starts row 0 → start ≡ length (values_text spec.kind (take row cells))
-start_read spec cells levels starts values row start k h e =
-    let at : get_or (starts_of spec.kind 0 cells) row 0 ≡ 0 + length (values_text spec.kind (take row cells)) = starts_at spec.kind 0 cells row h in
-    let none : 0 + length (values_text spec.kind (take row cells)) ≡ length (values_text spec.kind (take row cells)) = omega arith in
-    e ∙ ap (λ ss. get_or ss row 0) k.starts_are ∙ at ∙ none
+-- the bytes before a row, its own, and those behind
+values_at : (kind : ColumnKind) (cells : List Cell) (row : ℕ) → row < length cells
+    → values_text kind cells ≡ values_text kind (take row cells) ++ (text_of kind (get_or cells row null) ++ values_text kind (drop (suc row) cells))
+values_at kind cells row h = ap (values_text kind) (split_at cells row h) ∙ values_text-append kind (take row cells) (get_or cells row null ∷ drop (suc row) cells)
 
-pub end_read : (spec : ColumnSpec) (cells : List Cell) (levels starts values : List ℕ) (row end : ℕ) → Keeps spec cells levels starts values → length cells ≤ row
-    → end ≡ length values → end ≡ length (values_text spec.kind (take row cells))
-end_read spec cells levels starts values row end k h e =
+pub of_spec_at : (spec : ColumnSpec) (cells : List Cell) (row : ℕ) → AreCellsOf spec cells → row < length cells → IsCellOf spec (get_or cells row null)
+of_spec_at spec [] row all h = absurd (omega arith)
+of_spec_at spec (c ∷ cells) zero all h = all.0
+of_spec_at spec (c ∷ cells) (suc row) all h = of_spec_at spec cells row all.1 (omega arith)
+
+level_at : (cells : List Cell) (row : ℕ) → row < length cells → get_or (levels_of cells) row 0 ≡ level_of (get_or cells row null)
+level_at [] row h = absurd (omega arith)
+level_at (c ∷ cells) zero h = refl
+level_at (c ∷ cells) (suc row) h = level_at cells row (omega arith)
+
+null_by : (cell : Cell) → level_of cell ≡ 0 → cell ≡ null
+null_by null e = refl
+null_by (bool b) e = absurd (omega arith)
+null_by (int32 n) e = absurd (omega arith)
+null_by (int64 n) e = absurd (omega arith)
+null_by (bytes xs) e = absurd (omega arith)
+
+value_by : (spec : ColumnSpec) (cell : Cell) → IsCellOf spec cell → level_of cell ≢ 0 → IsValueOf spec.kind cell
+value_by spec null h e = absurd (e refl)
+value_by spec (bool b) h e = h
+value_by spec (int32 n) h e = h
+value_by spec (int64 n) h e = h
+value_by spec (bytes xs) h e = h
+
+-- a level of 0 is a null's
+pub null_read : (spec : ColumnSpec) (cells : List Cell) (levels marks values : List ℕ) (row : ℕ) → Keeps spec cells levels marks values → row < length cells
+    → get_or levels row 0 ≡ 0 → get_or cells row null ≡ null
+null_read spec cells levels marks values row k h e =
+    null_by (get_or cells row null) (sym (level_at cells row h) ∙ ap (λ ls. get_or ls row 0) (sym k.levels_are) ∙ e)
+
+-- any other is the level of a value, which is read where its bytes begin
+pub value_read : (spec : ColumnSpec) (cells : List Cell) (levels marks values : List ℕ) (row : ℕ) → Keeps spec cells levels marks values → row < length cells
+    → get_or levels row 0 ≢ 0 → value_kept spec.kind (start_of spec.kind cells row) values ≡ get_or cells row null
+value_read spec cells levels marks values row k h e =
+    let cell = get_or cells row null in
+    let level : level_of cell ≡ get_or levels row 0 = sym (level_at cells row h) ∙ ap (λ ls. get_or ls row 0) (sym k.levels_are) in
+    let value : IsValueOf spec.kind cell = value_by spec cell (of_spec_at spec cells row k.of_spec h) (λ z. e (sym level ∙ z)) in
+    rw (k.values_are, values_at spec.kind cells row h)
+    (read_kept spec.kind cell (values_text spec.kind (take row cells)) (values_text spec.kind (drop (suc row) cells)) value)
+
+size_by : (spec : ColumnSpec) (cell : Cell) (rest : List ℕ) → IsCellOf spec cell → size_kept spec.kind (level_of cell) (text_of spec.kind cell ++ rest) ≡ length (text_of spec.kind cell)
+size_by spec null rest h = refl
+size_by spec (bool b) rest h = (reads_as spec.kind (bool b) h).size rest
+size_by spec (int32 n) rest h = (reads_as spec.kind (int32 n) h).size rest
+size_by spec (int64 n) rest h = (reads_as spec.kind (int64 n) h).size rest
+size_by spec (bytes xs) rest h = (reads_as spec.kind (bytes xs) h).size rest
+
+-- the bytes of a row end where those of the next begin
+pub row_passed : (spec : ColumnSpec) (cells : List Cell) (levels marks values : List ℕ) (row start level : ℕ) → Keeps spec cells levels marks values → row < length cells
+    → level ≡ get_or levels row 0 → start ≡ start_of spec.kind cells row → start + size_kept spec.kind level (drop start values) ≡ start_of spec.kind cells (row + 1)
+row_passed spec cells levels marks values row start level k h e s =
+    let kind = spec.kind in
+    let cell = get_or cells row null in
+    let pre = values_text kind (take row cells) in
+    let rest = values_text kind (drop (suc row) cells) in
+    let here : level ≡ level_of cell = e ∙ ap (λ ls. get_or ls row 0) k.levels_are ∙ level_at cells row h in
+    let front : drop start values ≡ text_of kind cell ++ rest =
+    ap (drop start) (k.values_are ∙ values_at kind cells row h) ∙ drop_at pre (text_of kind cell ++ rest) start (sym s) in
+    let size : size_kept kind level (drop start values) ≡ length (text_of kind cell) = rw (here, front) (size_by spec cell rest (of_spec_at spec cells row k.of_spec h)) in
+    let one : row + 1 ≡ suc row = omega arith in
+    let next : take (row + 1) cells ≡ take row cells ++ cell ∷ [] = ap (λ n. take n cells) one ∙ take-suc cells row null h in
+    let behind : start_of kind cells (row + 1) ≡ start_of kind cells row + length (text_of kind cell) =
+    ap (λ cs. length (values_text kind cs)) next ∙ ap length (values_text-push kind (take row cells) cell) ∙ length-append pre (text_of kind cell) in
+    omega (arith, size, s, behind)
+
+-- the same of the code's steps, which stay inside the bytes
+pub row_step : (spec : ColumnSpec) (cells : List Cell) (levels marks values : List ℕ) (row start level size : ℕ) → Keeps spec cells levels marks values → row < length cells
+    → level ≡ get_or levels row 0 → start ≡ start_of spec.kind cells row
+    → (start + size_kept spec.kind level (drop start values) ≤ length values → size ≡ size_kept spec.kind level (drop start values))
+    → (start + size ≡ start_of spec.kind cells (row + 1)) × (start + size ≤ length values)
+row_step spec cells levels marks values row start level size k h e s told =
+    let next = row_passed spec cells levels marks values row start level k h e s in
+    let inside : start_of spec.kind cells (row + 1) ≤ length values = omega (arith, end_le spec.kind (row + 1) cells, ap length k.values_are) in
+    let same : size ≡ size_kept spec.kind level (drop start values) = told (omega (arith, next, inside)) in
+    let whole : start + size ≡ start_of spec.kind cells (row + 1) = omega (arith, same, next) in
+    (whole, omega (arith, whole, inside))
+
+pub mark_read : (spec : ColumnSpec) (cells : List Cell) (levels marks values : List ℕ) (row start : ℕ) → Keeps spec cells levels marks values → row < length marks
+    → start ≡ get_or marks row 0 → start ≡ start_of spec.kind cells (16 * row)
+mark_read spec cells levels marks values row start k h e = e ∙ k.marks_are.place row h
+
+-- the row behind the last begins behind all bytes
+pub end_read : (spec : ColumnSpec) (cells : List Cell) (levels marks values : List ℕ) (row end : ℕ) → Keeps spec cells levels marks values → length cells ≤ row
+    → end ≡ length values → end ≡ start_of spec.kind cells row
+end_read spec cells levels marks values row end k h e =
     e ∙ ap length k.values_are ∙ ap (λ cs. length (values_text spec.kind cs)) (sym (take_all row cells h))
 
 all_take : (spec : ColumnSpec) (n : ℕ) (cells : List Cell) → AreCellsOf spec cells → AreCellsOf spec (take n cells)
@@ -86,8 +162,3 @@ all_rows spec from to cells h = all_take spec (to - from) (drop from cells) (all
 
 pub few_rows : (from to : ℕ) (cells : List Cell) → length (rows_between from to cells) ≤ to - from
 few_rows from to cells = omega (arith, length-take (to - from) (drop from cells))
-
-pub cell_of_spec : (spec : ColumnSpec) (cells : List Cell) (row : ℕ) (cell : Cell) → AreCellsOf spec cells → slice_get cells row ≡ Some cell → IsCellOf spec cell
-cell_of_spec spec [] row cell h e = absurd (cc)
-cell_of_spec spec (c ∷ cells) zero cell h e = let same : c ≡ cell = cc in rw (← same) h.0
-cell_of_spec spec (c ∷ cells) (suc row) cell h e = cell_of_spec spec cells row cell h.1 e

@@ -1,5 +1,5 @@
 -- Columns of a table, the bytes that they keep, and the pages that are written of them.
-use Rattle.std.specs.Prelude.{◌≡◌, ℕ, zero, suc, ◌+◌, ◌-◌, ◌≤◌, true, false, if◌then◌else◌, List, [], ◌∷◌, ◌++◌, take, drop, map, length, slice_get, FitsSigned, Option, option_and_then, Ok}
+use Rattle.std.specs.Prelude.{◌≡◌, ℕ, zero, suc, ◌+◌, ◌-◌, ◌*◌, ◌/◌, ◌<◌, ◌≤◌, ◌==◌, true, false, if◌then◌else◌, List, [], ◌∷◌, ◌++◌, take, drop, map, length, slice_get, slice_index, FitsSigned, Option, option_and_then, Ok}
 use Rattle.std.specs.Int.{w32, w64, to_le_bytes, cast_unsigned}
 use Rattle.parquet_types.specs.declared.column.ColumnKind.{ColumnKind}
 use Rattle.parquet_types.specs.declared.column.ColumnKind.TheVariants.{Boolean, Int32, Int64, Int96, Float, Double, ByteArray, Fixed}
@@ -8,7 +8,7 @@ use Rattle.parquet_types.specs.declared.page_head.DataHead.{DataHead}
 use Rattle.pme_base.specs.declared.place.Place.{Place}
 use Rattle.hybrid_runs.specs.Written.{bits_text, run_text}
 use Rattle.plain_pages.specs.Cells.{Cell, null, bool, int32, int64, bytes}
-use Rattle.plain_pages.specs.Plain.{cell_at, value_of}
+use Rattle.plain_pages.specs.Plain.{cell_at, value_of, value_size}
 use Rattle.plain_pages.specs.Pages.{page, is_coded}
 
 -- a column of a table
@@ -52,11 +52,6 @@ abbrev pub values_text : ColumnKind → List Cell → List ℕ
 values_text kind [] = []
 values_text kind (cell ∷ cells) = text_of kind cell ++ values_text kind cells
 
--- where the bytes of each cell begin
-abbrev pub starts_of : ColumnKind → ℕ → List Cell → List ℕ
-starts_of kind start [] = []
-starts_of kind start (cell ∷ cells) = start ∷ starts_of kind (start + length (text_of kind cell)) cells
-
 abbrev pub level_of : Cell → ℕ
 level_of null = 0
 level_of _ = 1
@@ -64,26 +59,42 @@ level_of _ = 1
 abbrev pub levels_of : List Cell → List ℕ
 levels_of cells = map level_of cells
 
--- the cell whose bytes begin at `start`
+-- how many bytes a cell of this level takes at the front
+abbrev pub size_kept : ColumnKind → ℕ → List ℕ → ℕ
+size_kept kind zero front = 0
+size_kept kind (suc _) front = value_size kind front
+
+-- the cells of these levels and bytes: each value begins where the one before ends
+abbrev pub cells_kept : ColumnKind → List ℕ → List ℕ → List Cell
+cells_kept kind [] values = []
+cells_kept kind (zero ∷ levels) values = null ∷ cells_kept kind levels values
+cells_kept kind (suc _ ∷ levels) values = value_of kind values ∷ cells_kept kind levels (drop (value_size kind values) values)
+
+-- the value whose bytes begin at `start`
 abbrev pub value_kept : ColumnKind → ℕ → List ℕ → Cell
 value_kept Boolean start values = value_of Boolean (drop start values)
 value_kept kind start values = cell_at kind start values
 
-abbrev pub cell_kept : ColumnKind → ℕ → ℕ → List ℕ → Cell
-cell_kept kind zero start values = null
-cell_kept kind (suc _) start values = value_kept kind start values
+-- where the bytes of a row begin, or of the row behind the last
+abbrev pub start_of : ColumnKind → List Cell → ℕ → ℕ
+start_of kind cells row = length (values_text kind (take row cells))
 
-abbrev pub cells_kept : ColumnKind → List ℕ → List ℕ → List ℕ → List Cell
-cells_kept kind [] starts values = []
-cells_kept kind (level ∷ levels) [] values = []
-cells_kept kind (level ∷ levels) (start ∷ starts) values = cell_kept kind level start values ∷ cells_kept kind levels starts values
+-- marks tell where the bytes of each sixteenth cell begin
+pub record AreMarks (kind : ColumnKind) (cells : List Cell) (marks : List ℕ) : Type 0 where
+  pub enough : length cells ≤ 16 * length marks
+  pub few : 16 * length marks ≤ length cells + 16
+  pub place : (k : ℕ) → k < length marks → slice_index marks k ≡ start_of kind cells (16 * k)
+
+-- a mark more where the next cell has none
+abbrev pub marked : ℕ → ℕ → List ℕ → List ℕ
+marked count place marks = if count / 16 == length marks then marks ++ place ∷ [] else marks
 
 -- these bytes are what a column of the cells keeps
-pub record Keeps (spec : ColumnSpec) (cells : List Cell) (levels starts values : List ℕ) : Type 0 where
+pub record Keeps (spec : ColumnSpec) (cells : List Cell) (levels marks values : List ℕ) : Type 0 where
   pub of_spec : AreCellsOf spec cells
   pub levels_are : levels ≡ levels_of cells
-  pub starts_are : starts ≡ starts_of spec.kind 0 cells
   pub values_are : values ≡ values_text spec.kind cells
+  pub marks_are : AreMarks spec.kind cells marks
 
 -- ---- tables
 -- the rows of the first column

@@ -77,7 +77,7 @@ fn array_at<'a>(place: usize, body: &'a [u8]) -> CellRef<'a>
 }
 
 /// The bytes from a place on.
-fn rest_from(place: usize, body: &[u8]) -> &[u8]
+pub fn rest_from(place: usize, body: &[u8]) -> &[u8]
     ensures { result.now ≡ drop place body.now }
 {
     &body[place.min(body.len())..]
@@ -105,7 +105,7 @@ pub fn plain_places(
 }
 
 /// How much each value of a kind takes, in places; None for byte arrays.
-fn fixed_size(kind: ColumnKind) -> Option<usize>
+pub fn fixed_size(kind: ColumnKind) -> Option<usize>
     ensures { result ≡ plain.fixed_size kind }
 {
     match kind {

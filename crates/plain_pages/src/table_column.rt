@@ -1,25 +1,27 @@
-ghost use Rattle.std.specs.Prelude.{◌≡◌, ◌<◌, ◌≤◌, ◌-◌, ◌∷◌, ◌++◌, [], length, take, drop, slice_get, Some, OnOk, OnErr};
+ghost use Rattle.std.specs.Prelude.{◌≡◌, ◌+◌, ◌<◌, ◌≤◌, ◌-◌, ◌∷◌, ◌++◌, [], length, take, drop, slice_get, Some, OnOk, OnErr};
 ghost use Rattle.std.specs.Prelude.{slice_index, ◌%◌};
 ghost use Rattle.std.specs.Int.{w32, to_le_bytes};
 ghost use Rattle.plain_pages.specs.Cells.{cell_of, bytes as bytes_cell};
 ghost use Rattle.plain_pages.specs.Columns as columns;
+ghost use Rattle.plain_pages.specs.Plain as plain;
+ghost use Rattle.parquet_types.specs.declared.column.ColumnKind.TheVariants as kind_of;
 
 use crate::cell_ref::CellRef;
 use crate::page_writing::append_page;
-use crate::plain::cell_at;
+use crate::plain::{cell_at, fixed_size, rest_from};
 use parquet_types::{ColumnKind, ColumnSpec};
 use pme_base::{Bytes, OutOfMemory};
 use std::alloc::Global;
 use std::marker::Model;
 
-/// A column of a table. Beside the bytes of its values it keeps nine bytes for each cell.
+/// A column of a table. Beside the bytes of its values it keeps a byte and a half for each cell.
 #[derive(Debug, Drop)]
 pub struct TableColumn {
     spec: ColumnSpec,
     // 0 for a null and 1 for a value, as a page's levels are.
     levels: Vec<u8>,
-    // Where the bytes of each cell begin.
-    starts: Vec<usize>,
+    // Where the bytes of each sixteenth cell begin.
+    marks: Vec<usize>,
     // The values one behind the other: PLAIN, but a byte of 0 or 1 for a boolean.
     values: Vec<u8>,
 }
@@ -29,9 +31,9 @@ impl Model for TableColumn {
 
     ghost Value = { Column };
 
-    ghost view = { λ c. record { spec = c.spec; cells = cells_kept c.spec.kind c.levels.items c.starts.items c.values.items } };
+    ghost view = { λ c. record { spec = c.spec; cells = cells_kept c.spec.kind c.levels.items c.values.items } };
 
-    ghost invariant = { λ c. Keeps c.spec (cells_kept c.spec.kind c.levels.items c.starts.items c.values.items) c.levels.items c.starts.items c.values.items };
+    ghost invariant = { λ c. Keeps c.spec (cells_kept c.spec.kind c.levels.items c.values.items) c.levels.items c.marks.items c.values.items };
 }
 
 impl TableColumn {
@@ -42,7 +44,7 @@ impl TableColumn {
         TableColumn {
             spec,
             levels: Vec::new(alloc),
-            starts: Vec::new(alloc),
+            marks: Vec::new(alloc),
             values: Vec::new(alloc),
         }
     }
@@ -69,10 +71,8 @@ impl TableColumn {
         ensures unchanged { OnErr result (self.new ≡ self.old) }
     {
         self.levels.reserve(1)?;
-        self.starts.reserve(1)?;
-        let start = self.values.len();
+        put_mark(self.levels.len(), self.values.len(), &mut self.marks)?;
         put_value(&self.spec, cell, &mut self.values)?;
-        self.starts.push(start)?;
         self.levels.push(level_of(cell))?;
         Ok(())
     }
@@ -86,7 +86,7 @@ impl TableColumn {
         if self.levels[row] == 0 {
             return CellRef::Null;
         }
-        value_at(self.spec.kind, self.starts[row], self.values.as_slice())
+        value_at(self.spec.kind, self.start_of(row), self.values.as_slice())
     }
 
     /// Adds the page of some rows to the end of `into`, or leaves it as it is.
@@ -150,13 +150,44 @@ impl TableColumn {
     /// Where the bytes of a row begin, or of the row behind the last.
     fn start_of(&self, row: usize) -> usize
         requires { row ≤ length self.now.cells }
-        ensures { result ≡ length (columns.values_text self.now.spec.kind (take row self.now.cells)) }
+        ensures { result ≡ columns.start_of self.now.spec.kind self.now.cells row }
     {
-        if row < self.starts.len() {
-            self.starts[row]
-        } else {
-            self.values.len()
+        let mut start = match self.marks.get(row / 16) {
+            Some(mark) => *mark,
+            None => return self.values.len(),
+        };
+        for i in row / 16 * 16..row {
+            start += size_at(
+                self.spec.kind,
+                self.levels[i],
+                start,
+                self.values.as_slice(),
+            );
         }
+        start
+    }
+}
+
+/// How many bytes a cell of this level takes, whose bytes begin at `start`.
+fn size_at(kind: ColumnKind, level: u8, start: usize, values: &[u8]) -> usize
+    ensures { start + columns.size_kept kind level (drop start values.now) ≤ length values.now → result ≡ columns.size_kept kind level (drop start values.now) }
+{
+    if level == 0 {
+        return 0;
+    }
+    match fixed_size(kind) {
+        Some(size) => size,
+        None => array_size(start, values),
+    }
+}
+
+/// How many bytes a byte array takes with its length.
+fn array_size(start: usize, values: &[u8]) -> usize
+    ensures { start + plain.value_size kind_of.ByteArray (drop start values.now) ≤ length values.now → result ≡ plain.value_size kind_of.ByteArray (drop start values.now) }
+{
+    match rest_from(start, values).first_chunk::<4>() {
+        Some(length) => 4 + u32::from_le_bytes(*length) as usize,
+        None => 0,
     }
 }
 
@@ -166,6 +197,17 @@ fn part(bytes: &[u8], start: usize, end: usize) -> &[u8]
     ensures { result.now ≡ take (end - start) (drop start bytes.now) }
 {
     &bytes[start..end]
+}
+
+/// Marks the place of the cell behind so many others, where a mark is due.
+fn put_mark(count: usize, place: usize, marks: &mut Vec<usize>) -> Result<(), OutOfMemory>
+    ensures marked { OnOk result (marks.new.items ≡ columns.marked count place marks.old.items) }
+    ensures unchanged { OnErr result (marks.new.items ≡ marks.old.items) }
+{
+    if count / 16 == marks.len() {
+        marks.push(place)?;
+    }
+    Ok(())
 }
 
 /// 0 for a null and 1 for a value.

@@ -6,7 +6,7 @@ use Rattle.plain_pages.proofs.table_column.TableColumn.levels_between.Goals as g
 pub returns : goal.returns
 returns c =
     let inside = c.self.inside in
-    let cells = cells_kept inside.spec.kind inside.levels.items inside.starts.items inside.values.items in
+    let cells = cells_kept inside.spec.kind inside.levels.items inside.values.items in
     c.part.ensures
     ∙ ap (λ ls. take (c.args.to - c.args.from) (drop c.args.from ls)) c.as_slice.ensures.value
     ∙ levels_cut c.args.from c.args.to cells inside.levels.items c.self.invariant.levels_are

@@ -7,7 +7,7 @@ pub part-requires : goal.part-requires
 part-requires c =
     let inside = c.self.inside in
     let kind = inside.spec.kind in
-    let cells = cells_kept kind inside.levels.items inside.starts.items inside.values.items in
+    let cells = cells_kept kind inside.levels.items inside.values.items in
     let all : length c.as_slice.result.now ≡ length (values_text c.args.self.now.spec.kind c.args.self.now.cells) =
     ap length (c.as_slice.ensures.value ∙ c.self.invariant.values_are) ∙ ap (λ (v : Column). length (values_text v.spec.kind v.cells)) c.self.view_is in
     record {
@@ -19,7 +19,7 @@ pub returns : goal.returns
 returns c =
     let inside = c.self.inside in
     let kind = inside.spec.kind in
-    let cells = cells_kept kind inside.levels.items inside.starts.items inside.values.items in
+    let cells = cells_kept kind inside.levels.items inside.values.items in
     let back = sym c.self.view_is in
     let start : c.start_of-start.result ≡ length (values_text kind (take c.args.from cells)) =
     c.start_of-start.ensures ∙ ap (λ (v : Column). length (values_text v.spec.kind (take c.args.from v.cells))) back in
