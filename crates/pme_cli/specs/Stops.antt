@@ -1,5 +1,5 @@
 -- Why a command stopped: a refusal, and the file that it is about.
-use Rattle.std.specs.Prelude.{◌≡◌, ℕ, Bool, false, List, [], Result, Ok, Err}
+use Rattle.std.specs.Prelude.{◌≡◌, ℕ, Bool, false, List, [], Result, Ok, Err, IfErr}
 use Rattle.pme_base.specs.declared.refusal.Cause.{Cause}
 use Rattle.pme_base.specs.declared.refusal.Refusal.{Refusal}
 use Rattle.pme_base.specs.Refusals.{plain_refusal, is_free}
@@ -25,6 +25,13 @@ plain_stop cause = record { refusal = plain_refusal cause; subject = [] }
 abbrev pub about : {T : Type 0} → List ℕ → Result T Refusal → Result T Stop
 about name (Ok x) = Ok x
 about name (Err refusal) = Err (stop_of refusal name)
+
+-- a stop whose line tells the cause alone is about no file
+abbrev pub IsAboutItsFile : Stop → Type 0
+IsAboutItsFile stop = class_of stop.refusal.cause ≡ C → stop.subject ≡ []
+
+abbrev pub StopsAbout : {T : Type 0} → Result T Stop → Type 0
+StopsAbout outcome = IfErr outcome IsAboutItsFile
 
 -- whether a command ended by a cause that may come at any step
 abbrev pub is_free_outcome : {T : Type 0} → Result T Stop → Bool

@@ -6,6 +6,7 @@ ghost use Rattle.pme_base.specs.Steps.{WritesFail};
 ghost use Rattle.pme_cli.specs.declared.stop.Stop.{Stop};
 ghost use Rattle.pme_cli.specs.Outcomes.{StopsReading, StopsWriting};
 ghost use Rattle.pme_cli.specs.Printing.{is_printing_result};
+ghost use Rattle.pme_cli.specs.Stops.{StopsAbout};
 ghost use Rattle.pme_cli.specs.Printing as defined;
 ghost use Rattle.pme_cli.specs.TextCommand.{GivesText, TextAnswered, IsQuietWriter, EndsPrinting, stopped_by};
 
@@ -52,6 +53,7 @@ pub fn print_text<O: Sink>(
     ensures reads { (before now : ℕ) → StopsReading before now text → StopsReading before now result }
     ensures writes { IsQuietWriter text → StopsWriting (O.faults out.old) (O.faults out.new) result }
     ensures causes { (is_cause : Cause → Bool) → EndsPrinting is_cause → stopped_by is_cause text ≡ true → stopped_by is_cause result ≡ true }
+    ensures subject { StopsAbout text → StopsAbout result }
 {
     match text {
         Ok(text) => match print(text.as_slice(), out) {

@@ -1,4 +1,4 @@
-ghost use Rattle.std.specs.Prelude.{◌≡◌, ◌≤◌, ◌+◌, ◌⊎◌, true, false, IsNone, IfSome, IfErr};
+ghost use Rattle.std.specs.Prelude.{◌≡◌, ◌≤◌, ◌+◌, ◌⊎◌, [], true, false, IsNone, IfSome, IfErr};
 ghost use Rattle.command_line.specs.Commands as line;
 ghost use Rattle.pme_base.specs.declared.refusal.Cause.TheVariants as cause_of;
 ghost use Rattle.pme_base.specs.declared.outside.Trouble.TheVariants as trouble;
@@ -14,6 +14,7 @@ ghost use Rattle.pme_cli.specs.ThriftCommand.{ThriftAnswered, ThriftCompletes};
 ghost use Rattle.pme_cli.specs.KeysInput.{loaded_keys};
 ghost use Rattle.pme_cli.specs.FooterCommand.{FooterAnswered, FooterCompletes};
 ghost use Rattle.pme_cli.specs.Lines.{IfModule, IfThrift, IfFooter, UsageExactly, given_limit, is_outcome_cause, is_usage};
+ghost use Rattle.pme_cli.specs.Stops.{StopsAbout};
 ghost use Rattle.pme_cli.specs.TextCommand.{stopped_by};
 
 use crate::commands;
@@ -57,6 +58,10 @@ pub fn run<F: Files, N: Random, O: Sink, E: Sink>(
     ensures thrift_complete { IfThrift (line.command_of words.now) (λ file. ThriftCompletes file (F.published files.old) (Rose (F.faults files.old) (F.faults files.new) ⊎ Rose (O.faults out.old) (O.faults out.new)) (outcome_of result.refusal result.subject)) }
     ensures footer { IfFooter (line.command_of words.now) (λ asked. FooterAnswered asked (F.published files.old) (O.written out.old) (O.written out.new) (outcome_of result.refusal result.subject)) }
     ensures footer_complete { IfFooter (line.command_of words.now) (λ asked. FooterCompletes asked (F.published files.old) (Rose (F.faults files.old) (F.faults files.new) ⊎ Rose (O.faults out.old) (O.faults out.new)) (outcome_of result.refusal result.subject)) }
+
+    // A refusal whose line tells the cause alone is about no file, and nothing is where nothing was refused.
+    ensures subject { StopsAbout (outcome_of result.refusal result.subject) }
+    ensures no_subject { IsNone result.refusal → result.subject ≡ [] }
 
     // A fault comes only where the count of the object that failed rose in this call.
     ensures reads { StopsReading (F.faults files.old) (F.faults files.new) (outcome_of result.refusal result.subject) }
@@ -117,6 +122,7 @@ fn obey<F: Files, O: Sink>(
     ensures reads { StopsReading (F.faults files.old) (F.faults files.new) result }
     ensures writes { StopsWriting (O.faults out.old) (O.faults out.new) result }
     ensures causes { stopped_by is_outcome_cause result ≡ true }
+    ensures subject { StopsAbout result }
     ensures published { F.published files.new ≡ F.published files.old }
     ensures module_field { IfModule (line.command_of words.now) (λ key aad file. IfSome (F.published files.old) (λ told. IfErr (sealed_bytes (get told file)) (λ _. F.given files.new ≤ F.given files.old + 4))) }
     ensures thrift_unread { IfThrift (line.command_of words.now) (λ file. IfSome (F.published files.old) (λ told. IfErr (small_bytes (get told file)) (λ _. F.given files.new ≡ F.given files.old))) }
@@ -148,6 +154,7 @@ fn dispatch<F: Files, O: Sink>(
     ensures reads { StopsReading (F.faults files.old) (F.faults files.new) result }
     ensures writes { StopsWriting (O.faults out.old) (O.faults out.new) result }
     ensures causes { stopped_by is_outcome_cause result ≡ true }
+    ensures subject { StopsAbout result }
     ensures published { F.published files.new ≡ F.published files.old }
     ensures module_field { IfModule (Some command) (λ key aad file. IfSome (F.published files.old) (λ told. IfErr (sealed_bytes (get told file)) (λ _. F.given files.new ≤ F.given files.old + 4))) }
     ensures thrift_unread { IfThrift (Some command) (λ file. IfSome (F.published files.old) (λ told. IfErr (small_bytes (get told file)) (λ _. F.given files.new ≡ F.given files.old))) }

@@ -20,7 +20,8 @@ pub struct Stop {
 
 /// The stop of a refusal about the file `name`. A refusal whose line tells the cause alone has no subject.
 pub fn stop_of(alloc: Global, refusal: Refusal, name: Text) -> Stop
-    ensures { result ≡ defined.stop_of refusal name }
+    ensures stop { result ≡ defined.stop_of refusal name }
+    ensures subject { defined.IsAboutItsFile result }
 {
     match class_of(refusal.cause) {
         Class::C => Stop {
@@ -36,7 +37,8 @@ pub fn stop_of(alloc: Global, refusal: Refusal, name: Text) -> Stop
 
 /// The stop of a cause that tells nothing else.
 pub fn plain_stop(alloc: Global, cause: Cause) -> Stop
-    ensures { result ≡ defined.plain_stop cause }
+    ensures stop { result ≡ defined.plain_stop cause }
+    ensures subject { defined.IsAboutItsFile result }
 {
     Stop {
         refusal: plain_refusal(cause),
@@ -50,6 +52,7 @@ pub fn about(alloc: Global, text: Result<Bytes, Refusal>, name: Text) -> Result<
     ensures gives { (told : Option Published) (texts : Published → Result (List ℕ) Refusal) → AnswersText text texts told → GivesText result (λ files. defined.about name (texts files)) told }
     ensures reads { (before now : ℕ) → ReadsFail before now text → StopsReading before now result }
     ensures causes { (is_cause : Cause → Bool) → caused_by is_cause text ≡ true → stopped_by is_cause result ≡ true }
+    ensures subject { defined.StopsAbout result }
 {
     match text {
         Ok(text) => Ok(text),

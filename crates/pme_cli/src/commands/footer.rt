@@ -5,6 +5,7 @@ ghost use Rattle.pme_base.specs.Counts.{Rose};
 ghost use Rattle.pme_cli.specs.Outcomes.{StopsReading, StopsWriting};
 ghost use Rattle.pme_cli.specs.SmallFile.{small_bytes};
 ghost use Rattle.pme_cli.specs.KeysInput.{loaded_keys};
+ghost use Rattle.pme_cli.specs.Stops.{StopsAbout};
 ghost use Rattle.pme_cli.specs.TextCommand.{AnswersText, GivesText, caused_by, stopped_by};
 ghost use Rattle.pme_cli.specs.FooterCommand.{footer_words, tail_with, text_with, is_tail_text_cause, is_footer_cause, FooterAnswered, FooterCompletes};
 ghost use Rattle.pme_cli.specs.FooterCommand as defined;
@@ -38,6 +39,7 @@ pub fn footer<F: Files, O: Sink>(
     ensures writes { StopsWriting (O.faults out.old) (O.faults out.new) result }
     ensures complete { FooterCompletes (footer_words file keys prefix gcm_only) (F.published files.old) (Rose (F.faults files.old) (F.faults files.new) ⊎ Rose (O.faults out.old) (O.faults out.new)) result }
     ensures causes { stopped_by is_footer_cause result ≡ true }
+    ensures subject { StopsAbout result }
     ensures published { F.published files.new ≡ F.published files.old }
     ensures unread { IfSome (F.published files.old) (λ told. IfErr (small_bytes (get told keys)) (λ _. F.given files.new ≡ F.given files.old)) }
     ensures keys { IfSome (F.published files.old) (λ told. IfErr (loaded_keys (get told keys)) (λ _. F.given files.new ≤ F.given files.old + 16777216)) }
@@ -59,6 +61,7 @@ fn footer_text<F: Files>(
     ensures gives { GivesText result (defined.footer_text (footer_words file keys prefix.now gcm_only)) (F.published files.old) }
     ensures reads { StopsReading (F.faults files.old) (F.faults files.new) result }
     ensures causes { stopped_by is_tail_text_cause result ≡ true }
+    ensures subject { StopsAbout result }
     ensures published { F.published files.new ≡ F.published files.old }
     ensures unread { IfSome (F.published files.old) (λ told. IfErr (small_bytes (get told keys)) (λ _. F.given files.new ≡ F.given files.old)) }
     ensures keys { IfSome (F.published files.old) (λ told. IfErr (loaded_keys (get told keys)) (λ _. F.given files.new ≤ F.given files.old + 16777216)) }

@@ -6,6 +6,7 @@ ghost use Rattle.pme_base.specs.Counts.{Rose};
 ghost use Rattle.crypto_module.specs.Modules.{IsGcm};
 ghost use Rattle.crypto_module.specs.Frames as frames;
 ghost use Rattle.pme_cli.specs.SealedFile.{plaintext_limit, opened_buffer, opened_file, sealed_bytes};
+ghost use Rattle.pme_cli.specs.Stops.{StopsAbout};
 ghost use Rattle.pme_cli.specs.TextCommand.{AnswersText, caused_by, stopped_by};
 ghost use Rattle.pme_cli.specs.ModuleCommand.{ModuleAnswered, ModuleCompletes, IsSealedText, is_module_cause, is_opening_cause};
 ghost use Rattle.pme_cli.specs.ModuleCommand as defined;
@@ -34,6 +35,7 @@ pub fn module<F: Files, O: Sink>(
     ensures writes { StopsWriting (O.faults out.old) (O.faults out.new) result }
     ensures complete { ModuleCompletes key associated_data name (F.published files.old) (Rose (F.faults files.old) (F.faults files.new) ⊎ Rose (O.faults out.old) (O.faults out.new)) result }
     ensures causes { stopped_by is_module_cause result ≡ true }
+    ensures subject { StopsAbout result }
     ensures published { F.published files.new ≡ F.published files.old }
     ensures field { IfSome (F.published files.old) (λ told. IfErr (sealed_bytes (get told name)) (λ _. F.given files.new ≤ F.given files.old + 4)) }
     ensures given { F.given files.new ≤ F.given files.old + 16777248 }

@@ -5,6 +5,7 @@ ghost use Rattle.pme_base.specs.Counts.{Rose};
 ghost use Rattle.thrift_compact.specs.View.{view};
 ghost use Rattle.pme_cli.specs.Outcomes.{StopsReading, StopsWriting};
 ghost use Rattle.pme_cli.specs.SmallFile.{small_bytes};
+ghost use Rattle.pme_cli.specs.Stops.{StopsAbout};
 ghost use Rattle.pme_cli.specs.TextCommand.{AnswersText, caused_by, stopped_by};
 ghost use Rattle.pme_cli.specs.ThriftCommand.{ThriftAnswered, ThriftCompletes, IsTextOf, IsFileText, is_text_cause, is_thrift_cause};
 ghost use Rattle.pme_cli.specs.ThriftCommand as defined;
@@ -31,6 +32,7 @@ pub fn thrift<F: Files, O: Sink>(
     ensures writes { StopsWriting (O.faults out.old) (O.faults out.new) result }
     ensures complete { ThriftCompletes name (F.published files.old) (Rose (F.faults files.old) (F.faults files.new) ⊎ Rose (O.faults out.old) (O.faults out.new)) result }
     ensures causes { stopped_by is_thrift_cause result ≡ true }
+    ensures subject { StopsAbout result }
     ensures published { F.published files.new ≡ F.published files.old }
     ensures unread { IfSome (F.published files.old) (λ told. IfErr (small_bytes (get told name)) (λ _. F.given files.new ≡ F.given files.old)) }
     ensures given { F.given files.new ≤ F.given files.old + 16777216 }
