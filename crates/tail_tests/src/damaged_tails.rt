@@ -26,14 +26,15 @@ const KEYS: &[u8] =
 //   gcm only            AES_GCM_CTR_V1 is refused
 //   no keys             no key is found
 //   key refused=CAUSE   the finder refuses each key
-//   NAME=BYTES          this part of the sealed or signed footer is another; the parts are named in `tail_lines`
+//   NAME=BYTES          this part of the sealed or signed footer is another, or left out where BYTES is empty; the parts
+//                       are named in `tail_lines`
 //   footer=BYTES        the whole footer is another
 //   front=BYTES         another FileCryptoMetaData stands before the sealed footer
 //   under=BYTES         the footer is sealed under this prefix
 //
 // ANSWER is a refusal's cause, place, offset and detail; or of a file that is read the footer's mode, the offset of its
 // area, that of its module or its signature, what associated data begin with, and how many columns and rows there are.
-// Each was worked out from the format's rules, and the tags by another implementation of AES-GCM.
+// Another program worked each out from the format's rules; none was taken from what `read_tail` answered.
 const CASES: &str = "\
 # The file's two ends: it is there, has 12 bytes, and its last four bytes and its first are one magic.
 absent: NoFile File 0 Nothing

@@ -17,8 +17,12 @@ const NONCE: [u8; 12] = [7; 12];
 // The FileCryptoMetaData before a sealed footer: AES_GCM_V1, UNIQUE, and the key's metadata `kf`.
 const FRONT: &str = "1c1c2808 0001020304050607 0000 18026b66 00";
 
-/// The parts of a footer: the INT64 columns a, b and c, and two groups of 3 and 2 rows. A chunk of a is plain, one of b has
-/// the footer's key, and the first of c has a key of its own, whose metadata is `id`.
+// The parts of a footer in hex: the INT64 columns a, b and c, and two groups of 3 and 2 rows. A chunk of a is plain, one of
+// b has the footer's key, and the first of c has a key of its own, whose metadata is `id`. The part `stop`, 00, ends it.
+//
+// In Thrift's compact protocol a field's first byte is 16 times the distance of its id from the one before, and the type:
+// 1 true, 2 false, 4 i16, 5 i32, 6 i64, 8 binary, 9 list, c struct. Numbers are zigzag (06 is 3, 01 is -1), a list begins
+// with 16 times its size and its elements' type, and 00 ends a struct.
 const FOOTER: &str = "\
 version=1502
 schema=194c
@@ -39,16 +43,17 @@ second_group=193c 00 8c1c000000 00 2604 4402 00
 creator=2803706d65
 ";
 
-/// What a signed footer has beside: AES_GCM_V1, UNIQUE, and the key's metadata `kf`.
+// What a signed footer has before its end: AES_GCM_V1, UNIQUE, and the key's metadata `kf`.
 const SIGNING: &str = "\
 algorithm=2c1c2808 0001020304050607 0000
 metadata=18026b66
 ";
 
 // The names of files and settings beside the names of the footer's parts.
-const SETTINGS: &str =
-    "absent, encrypted, signed, counter, bytes, seal, sign, prefix, gcm only, no keys, key refused, stop, \
-    footer, front, under";
+const SETTINGS: &str = "\
+absent, encrypted, signed, counter, bytes, seal, sign,
+prefix, gcm only, no keys, key refused,
+stop, footer, front, under";
 
 /// The name and the value of a setting.
 fn split_setting(word: &str) -> (&str, &str) {
