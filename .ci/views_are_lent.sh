@@ -4,17 +4,8 @@
 # A must-fail edit can't show this, since an edit has to compile. It builds throw-away programs over a copy of the
 # crates, unproved.
 set -eu
-top=$(cd "$(dirname "$0")/.." && pwd)
-work=$(mktemp -d)
-trap 'rm -rf "$work"' EXIT
-git -C "$work" init -q
-program="$work/crates/lent_view"
-mkdir -p "$program/src"
-for name in pme_base parquet_types hybrid_runs plain_pages; do
-    mkdir "$work/crates/$name"
-    (cd "$top/crates/$name" && cp -r src specs proofs "$work/crates/$name/" 2>/dev/null) || true
-done
-{ grep -E '^(pme_base|parquet_types|hybrid_runs|plain_pages):' "$top/crates.txt"; echo 'lent_view: plain_pages parquet_types pme_base anyhow'; } > "$work/crates.txt"
+. "$(dirname "$0")/../bench/throwaway.sh"
+throw_away lent_view 'pme_base parquet_types hybrid_runs plain_pages' 'plain_pages parquet_types pme_base anyhow'
 
 # Writes the program with this statement between the making of the view and its use, and compiles it.
 compiled() {

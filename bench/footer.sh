@@ -5,19 +5,9 @@
 # program held while it read once, in times of these bytes.
 # It builds a throw-away program over a copy of the crates, and needs python3.
 set -eu
-top=$(cd "$(dirname "$0")/.." && pwd)
-work=$(mktemp -d)
-trap 'rm -rf "$work"' EXIT
-git -C "$work" init -q
-bench="$work/crates/footer_bench"
-mkdir -p "$bench/src"
-names='pme_terms|pme_base|thrift_compact|parquet_types|footer_rules|parquet_fields|parquet_writing|parquet_meta'
-for name in ${names//|/ }; do
-    mkdir "$work/crates/$name"
-    (cd "$top/crates/$name" && cp -a src specs proofs out "$work/crates/$name/" 2>/dev/null) || true
-done
-{ grep -E "^($names):" "$top/crates.txt"; echo 'footer_bench: parquet_meta pme_base anyhow'; } > "$work/crates.txt"
-cat > "$bench/src/main.rt" <<'RT'
+. "$(dirname "$0")/throwaway.sh"
+throw_away footer_bench 'pme_base thrift_compact parquet_types footer_rules parquet_fields parquet_writing parquet_meta' 'parquet_meta pme_base anyhow'
+cat > "$program/src/main.rt" <<'RT'
 // Times reading the footer in `footer.bin`, once for each of its words.
 #![tactic(auto)]
 
@@ -104,10 +94,10 @@ files = {
 for name, data in files.items():
     open(sys.argv[1] + "/" + name, "wb").write(data)
 PY
-python3 "$work/inputs.py" "$bench"
-cp "$bench/columns" "$bench/footer.bin"
-(cd "$bench" && rt run -- 1 > "$work/ours.txt" 2> "$work/rt.log") || { cat "$work/ours.txt" "$work/rt.log" | tail -n 40; exit 1; }
-cd "$bench"
+python3 "$work/inputs.py" "$program"
+cp "$program/columns" "$program/footer.bin"
+(cd "$program" && rt run -- 1 > "$work/ours.txt" 2> "$work/rt.log") || { cat "$work/ours.txt" "$work/rt.log" | tail -n 40; exit 1; }
+cd "$program"
 python3 - out/footer_bench <<'PY'
 import os, shutil, subprocess, sys
 for name in ["columns", "empty-chunks", "long-names"]:

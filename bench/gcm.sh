@@ -4,17 +4,9 @@
 # processor time, and of several runs the least counts.
 # It builds a throw-away program over a copy of the crates, and needs openssl and python3.
 set -eu
-top=$(cd "$(dirname "$0")/.." && pwd)
-work=$(mktemp -d)
-trap 'rm -rf "$work"' EXIT
-git -C "$work" init -q
-mkdir -p "$work/crates/gcm_bench/src"
-for name in pme_terms aes_block gcm_field gcm_seal; do
-    mkdir "$work/crates/$name"
-    (cd "$top/crates/$name" && cp -r src specs proofs "$work/crates/$name/" 2>/dev/null) || true
-done
-{ grep -E '^(pme_terms|aes_block|gcm_field|gcm_seal):' "$top/crates.txt"; echo 'gcm_bench: aes_block gcm_seal anyhow'; } > "$work/crates.txt"
-cat > "$work/crates/gcm_bench/src/main.rt" <<'RT'
+. "$(dirname "$0")/throwaway.sh"
+throw_away gcm_bench 'pme_terms aes_block gcm_field gcm_seal' 'aes_block gcm_seal anyhow'
+cat > "$program/src/main.rt" <<'RT'
 // Times opening and sealing, and writes a module of 16 MiB.
 #![tactic(auto)]
 
@@ -106,9 +98,9 @@ fn main(rt: HostRuntime) -> Result<()> {
     write_module(&rt, &key, text.as_mut_slice())
 }
 RT
-(cd "$work/crates/gcm_bench" && rt run > "$work/ours.txt" 2> "$work/rt.log") || { tail -20 "$work/rt.log"; exit 1; }
+(cd "$program" && rt run > "$work/ours.txt" 2> "$work/rt.log") || { tail -20 "$work/rt.log"; exit 1; }
 (cd "$top/crates/pme_cli" && rt run -- module > /dev/null 2>&1) || true
-cd "$work/crates/gcm_bench"
+cd "$program"
 python3 - "$work/ours.txt" "$top/crates/pme_cli/out/pme_cli" <<'PY'
 import os, re, subprocess, sys
 environment = dict(os.environ, OPENSSL_ia32cap="~0x200000200000000")

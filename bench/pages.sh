@@ -3,18 +3,9 @@
 # read through a view. All times are processor time, the least of several runs counts, and a rate is the bytes of the
 # page by that time. It builds a throw-away program over a copy of the crates.
 set -eu
-top=$(cd "$(dirname "$0")/.." && pwd)
-work=$(mktemp -d)
-trap 'rm -rf "$work"' EXIT
-git -C "$work" init -q
-bench="$work/crates/pages_bench"
-mkdir -p "$bench/src" "$bench/proofs"
-for name in pme_base parquet_types hybrid_runs plain_pages; do
-    mkdir "$work/crates/$name"
-    (cd "$top/crates/$name" && cp -r src specs proofs "$work/crates/$name/" 2>/dev/null) || true
-done
-{ grep -E '^(pme_base|parquet_types|hybrid_runs|plain_pages):' "$top/crates.txt"; echo 'pages_bench: plain_pages parquet_types pme_base anyhow'; } > "$work/crates.txt"
-cat > "$bench/src/main.rt" <<'RT'
+. "$(dirname "$0")/throwaway.sh"
+throw_away pages_bench 'pme_base parquet_types hybrid_runs plain_pages' 'plain_pages parquet_types pme_base anyhow'
+cat > "$program/src/main.rt" <<'RT'
 // Times pages: written from a table, indexed, and read cell by cell.
 #![tactic(auto)]
 
@@ -216,9 +207,8 @@ fn main(rt: HostRuntime) -> Result<()> {
     measure_dictionary(&rt)
 }
 RT
-mkdir -p "$bench/specs"
-echo 'pub mod Numbers' > "$bench/specs/Lib.antt"
-cat > "$bench/specs/Numbers.antt" <<'ANTT'
+echo 'pub mod Numbers' > "$program/specs/Lib.antt"
+cat > "$program/specs/Numbers.antt" <<'ANTT'
 use Rattle.plain_pages.specs.declared.cell_ref.CellRef.{CellRef}
 use Rattle.plain_pages.specs.declared.cell_ref.CellRef.TheVariants.{Null, Int64}
 use Rattle.std.specs.Prelude.{FitsSigned}
@@ -230,10 +220,10 @@ IsNumber Null = Unit {0}
 IsNumber (Int64 n) = FitsSigned w64 n
 IsNumber _ = ⊥
 ANTT
-sed -i '0,/^ghost use/s//ghost use Rattle.pages_bench.specs.Numbers.{IsNumber};\nghost use/' "$bench/src/main.rt"
+sed -i '0,/^ghost use/s//ghost use Rattle.pages_bench.specs.Numbers.{IsNumber};\nghost use/' "$program/src/main.rt"
 for function in push_numbers push_some_numbers push_texts; do
-    mkdir -p "$bench/proofs/$function"
-    cat > "$bench/proofs/$function/Invariants.antt" <<ANTT
+    mkdir -p "$program/proofs/$function"
+    cat > "$program/proofs/$function/Invariants.antt" <<ANTT
 use Rattle.std.proofs.Common.{◌≡◌}
 use Rattle.pages_bench.proofs.$function.Given as goal
 
@@ -241,7 +231,7 @@ abbrev pub invariant-loop-i : goal.invariant-loop-i
 invariant-loop-i l = l.column.spec ≡ l.fn.column.spec
 ANTT
 done
-(cd "$bench" && rt run > "$work/ours.txt" 2> "$work/rt.log") || { cat "$work/ours.txt" "$work/rt.log" | tail -n 40; exit 1; }
+(cd "$program" && rt run > "$work/ours.txt" 2> "$work/rt.log") || { cat "$work/ours.txt" "$work/rt.log" | tail -n 40; exit 1; }
 python3 - "$work/ours.txt" <<'PY'
 import sys
 for line in open(sys.argv[1]):

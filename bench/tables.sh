@@ -4,18 +4,9 @@
 # by that time. Memory is the most that the program held while it read, in times of the text's bytes. It builds a
 # throw-away program over a copy of the crates.
 set -eu
-top=$(cd "$(dirname "$0")/.." && pwd)
-work=$(mktemp -d)
-trap 'rm -rf "$work"' EXIT
-git -C "$work" init -q
-bench="$work/crates/tables_bench"
-mkdir -p "$bench/src" "$bench/specs" "$bench/proofs"
-for name in pme_base parquet_types hybrid_runs plain_pages table_text; do
-    mkdir "$work/crates/$name"
-    (cd "$top/crates/$name" && cp -r src specs proofs "$work/crates/$name/" 2>/dev/null) || true
-done
-{ grep -E '^(pme_base|parquet_types|hybrid_runs|plain_pages|table_text):' "$top/crates.txt"; echo 'tables_bench: table_text plain_pages parquet_types pme_base anyhow'; } > "$work/crates.txt"
-cat > "$bench/src/main.rt" <<'RT'
+. "$(dirname "$0")/throwaway.sh"
+throw_away tables_bench 'pme_base parquet_types hybrid_runs plain_pages table_text' 'table_text plain_pages parquet_types pme_base anyhow'
+cat > "$program/src/main.rt" <<'RT'
 // Times tables: generated, written as text, and read back.
 #![tactic(auto)]
 
@@ -131,8 +122,8 @@ fn main(rt: HostRuntime) -> Result<()> {
     }
 }
 RT
-echo 'pub mod Cells' > "$bench/proofs/Lib.antt"
-cat > "$bench/proofs/Cells.antt" <<'ANTT'
+echo 'pub mod Cells' > "$program/proofs/Lib.antt"
+cat > "$program/proofs/Cells.antt" <<'ANTT'
 use Rattle.std.proofs.Common.{◌≡◌, Option, Some, None, refl}
 use Rattle.std.specs.Option.{option_map}
 use Rattle.parquet_types.specs.declared.column.ColumnSpec.{ColumnSpec}
@@ -146,8 +137,8 @@ cell_fits None spec cell e h = cc e
 cell_fits (Some c) spec cell e h = let same : c.spec ≡ spec = cc e in rw (← same) (h c refl)
 ANTT
 invariant() {
-    mkdir -p "$bench/proofs/$1"
-    cat > "$bench/proofs/$1/Invariants.antt" <<ANTT
+    mkdir -p "$program/proofs/$1"
+    cat > "$program/proofs/$1/Invariants.antt" <<ANTT
 use Rattle.std.proofs.Common.{◌≡◌, ◌<◌, ℕ, length}
 use Rattle.std.specs.List.{AllByRecursion}
 use Rattle.tables_bench.proofs.$1.Given as goal
@@ -159,9 +150,9 @@ ANTT
 invariant schema_of 'length l.schema ≡ l.column'
 invariant row_cells 'length l.cells ≡ l.column'
 invariant all_columns '(length l.chosen ≡ l.column) × AllByRecursion (λ (column : ℕ). column < l.fn.count) l.chosen'
-(cd "$bench" && rt run > "$work/ours.txt" 2> "$work/rt.log") || { cat "$work/ours.txt" "$work/rt.log" | tail -n 40; exit 1; }
+(cd "$program" && rt run > "$work/ours.txt" 2> "$work/rt.log") || { cat "$work/ours.txt" "$work/rt.log" | tail -n 40; exit 1; }
 cd "$work"
-python3 - "$bench/out/tables_bench" <<'PY'
+python3 - "$program/out/tables_bench" <<'PY'
 import os, subprocess, sys
 def run():
     child = subprocess.Popen([sys.argv[1]], stdout=subprocess.PIPE)

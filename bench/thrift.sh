@@ -4,17 +4,9 @@
 # processor time, and its memory in times of the input. Of several runs the least counts.
 # It builds a throw-away program over a copy of the crates, and needs python3.
 set -eu
-top=$(cd "$(dirname "$0")/.." && pwd)
-work=$(mktemp -d)
-trap 'rm -rf "$work"' EXIT
-git -C "$work" init -q
-mkdir -p "$work/crates/thrift_bench/src"
-for name in pme_terms pme_base thrift_compact; do
-    mkdir "$work/crates/$name"
-    (cd "$top/crates/$name" && cp -r src specs proofs "$work/crates/$name/" 2>/dev/null) || true
-done
-{ grep -E '^(pme_terms|pme_base|thrift_compact):' "$top/crates.txt"; echo 'thrift_bench: thrift_compact anyhow'; } > "$work/crates.txt"
-cat > "$work/crates/thrift_bench/src/main.rt" <<'RT'
+. "$(dirname "$0")/throwaway.sh"
+throw_away thrift_bench 'pme_base thrift_compact' 'thrift_compact anyhow'
+cat > "$program/src/main.rt" <<'RT'
 // Times passing over the struct in `structs.bin`.
 #![tactic(auto)]
 
@@ -72,10 +64,10 @@ files = {
 for name, data in files.items():
     open(sys.argv[1] + "/" + name + ".bin", "wb").write(data)
 PY
-python3 "$work/inputs.py" "$work/crates/thrift_bench"
-(cd "$work/crates/thrift_bench" && rt run > "$work/ours.txt" 2> "$work/rt.log") || { tail -20 "$work/rt.log"; exit 1; }
+python3 "$work/inputs.py" "$program"
+(cd "$program" && rt run > "$work/ours.txt" 2> "$work/rt.log") || { tail -20 "$work/rt.log"; exit 1; }
 (cd "$top/crates/pme_cli" && rt run -- thrift > /dev/null 2>&1) || true
-cd "$work/crates/thrift_bench"
+cd "$program"
 python3 - "$work/ours.txt" "$top/crates/pme_cli/out/pme_cli" <<'PY'
 import os, subprocess, sys
 size, nanos = map(int, open(sys.argv[1]).read().split())

@@ -135,7 +135,9 @@ fn members_are_found_by_name(rt: HostRuntime) -> Result<(), Fail> {
     assert_eq!(rt; truth_at(&value, "is"), Some(true));
     assert_eq!(rt; list_at(&value, "names").map(|names| names.len()), Some(2));
     assert_eq!(rt; text_at(&value, "is").is_none(), true);
-    let first = value.as_object().and_then(first_other_than_text);
+    let first = value
+        .as_object()
+        .and_then(|members| first_other_than_text(members));
     assert_eq!(rt; first.is_some_and(|name| name == "is"), true);
     Ok(())
 }

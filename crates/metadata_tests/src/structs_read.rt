@@ -8,10 +8,11 @@ use std::process::Abort;
 use std::test::Fail;
 
 // A reader, the bytes in hex, and the answer: the cause with the struct and the field, `ok` and the count of bytes (0
-// where the reader tells none), or the fault and its offset. Each was worked out by hand from the compact protocol: a field's byte is 16 times the
-// distance from the field before and the type (1 true, 2 false, 4 i16, 5 i32, 6 i64, 8 binary, 9 list, b map,
-// c struct), and 00 ends a struct. The footer of 354 bytes has all that Arrow's writer puts into one: statistics, logical
-// types, key-value metadata, sorting columns, sizes, column orders and more.
+// where the reader tells none), or the fault and its offset. Each was worked out by hand from the compact protocol: a
+// field's byte is 16 times the distance from the field before and the type (1 true, 2 false, 4 i16, 5 i32, 6 i64,
+// 8 binary, 9 list, b map, c struct), and 00 ends a struct. The footer of 354 bytes was laid by hand after the form of
+// Arrow's writer, with statistics, logical types, key-value metadata, sorting columns, sizes, column orders and more; it
+// was never compared with a file that Arrow wrote.
 const CASES: &str = "\
 crypto 1c1c2808000102030405060700 00 18026b66 00: ok 19
 crypto 1c1c2808000102030405060700 00 18026b66 00 ff: ok 19

@@ -2,8 +2,15 @@
 #![tactic(auto)]
 
 #[cfg(test)]
-mod reading;
+mod damaged_tails;
 #[cfg(test)]
-mod sealed;
+mod faults_told;
+mod refusing_finder;
+#[cfg(test)]
+mod sample_files;
+#[cfg(test)]
+mod tail_lines;
 #[cfg(test)]
 mod writing;
+
+pub use refusing_finder::{KeyFault, RefusingFinder};
