@@ -160,7 +160,7 @@ encrypted, @278=1d000001: TooLarge Footer 278 Pair(16777217, 16777216)
 encrypted, @278=1c000001: Truncated Footer 278 Pair(16777248, 249)
 encrypted, @278=f6: Truncated Footer 278 Pair(250, 249)
 encrypted, @278=f4: BadLength Footer 278 Pair(244, 245)
-# The tag of the module, and of a signature.
+# The tag of the module, and of a signature, which is over the footer's own bytes: 158200 is a longer spelling of 1502.
 encrypted: Encrypted 259 278 5feceb66ffc86f38 3 columns 4 rows
 encrypted, @526=b8: BadTag Footer 278 Tags([218, 100, 207, 157, 158, 72, 191, 1, 162, 160, 2, 165, 238, 150, 128, 185], [218, 100, 207, 157, 158, 72, 191, 1, 162, 160, 2, 165, 238, 150, 128, 184])
 encrypted, @282=27: BadTag Footer 278 Tags([173, 110, 159, 180, 163, 115, 227, 5, 187, 196, 200, 73, 93, 88, 91, 126], [218, 100, 207, 157, 158, 72, 191, 1, 162, 160, 2, 165, 238, 150, 128, 185])
@@ -170,6 +170,7 @@ counter, prefix=71: BadTag Footer 496 Tags([167, 24, 229, 254, 142, 134, 55, 140
 seal, front=1c1c2808 0001020304050607 0000 18026b6300: BadTag Footer 23 Tags([110, 169, 170, 248, 74, 183, 61, 27, 68, 78, 167, 241, 119, 3, 251, 29], [103, 188, 17, 94, 215, 172, 69, 19, 66, 44, 11, 131, 97, 235, 239, 79])
 seal, footer=00, @39=00: BadTag Footer 23 Tags([187, 230, 125, 103, 40, 72, 144, 183, 123, 93, 95, 54, 102, 193, 118, 157], [9, 207, 221, 170, 252, 79, 12, 189, 99, 125, 202, 38, 246, 138, 106, 110])
 sign: Signed 4 111 0001020304050607 3 columns 5 rows
+sign, version=158200: Signed 4 112 0001020304050607 3 columns 5 rows
 sign, footer=1502 191c 4806736368656d61150000 1600 190c 4c1c2808 0001020304050607 0000 18026b66 00: Signed 4 42 0001020304050607 0 columns 0 rows
 signed, @616=66: BadTag Footer 589 Tags([115, 138, 74, 222, 198, 232, 194, 102, 216, 147, 230, 79, 127, 60, 178, 101], [115, 138, 74, 222, 198, 232, 194, 102, 216, 147, 230, 79, 127, 60, 178, 102])
 signed, @589=00: BadTag Footer 589 Tags([235, 40, 36, 75, 204, 159, 158, 222, 210, 64, 226, 130, 250, 171, 160, 122], [115, 138, 74, 222, 198, 232, 194, 102, 216, 147, 230, 79, 127, 60, 178, 101])
