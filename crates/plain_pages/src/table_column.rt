@@ -65,6 +65,8 @@ impl TableColumn {
 
     /// Adds a cell at the end. It is one that the column may hold: a value of its physical type, of at most
     /// 268,435,456 bytes, or null where it is optional.
+    // Inlined with what adds a value, so that a caller pays for the kind of cell that it has and for no other.
+    #[inline(always)]
     pub fn push(&mut self, cell: CellRef<'_>) -> Result<(), OutOfMemory>
         requires { columns.IsCellOf self.old.spec (cell_of cell) }
         ensures pushed { OnOk result (self.new ≡ record self.old { cells = self.old.cells ++ cell_of cell.entry ∷ [] }) }
@@ -73,7 +75,7 @@ impl TableColumn {
         self.levels.reserve(1)?;
         put_mark(self.levels.len(), self.values.len(), &mut self.marks)?;
         put_value(&self.spec, cell, &mut self.values)?;
-        self.levels.push(level_of(cell))?;
+        self.levels.push_reserved(level_of(cell));
         Ok(())
     }
 
@@ -241,6 +243,7 @@ fn byte_at(start: usize, values: &[u8]) -> u8
 }
 
 /// Adds the bytes of a value to the end of `values`, or leaves them as they are.
+#[inline(always)]
 fn put_value(spec: &ColumnSpec, cell: CellRef<'_>, values: &mut Vec<u8>) -> Result<(), OutOfMemory>
     requires { columns.IsCellOf spec.now (cell_of cell) }
     ensures put { OnOk result (values.new.items ≡ values.old.items ++ columns.text_of spec.now.kind (cell_of cell.entry)) }
@@ -256,6 +259,7 @@ fn put_value(spec: &ColumnSpec, cell: CellRef<'_>, values: &mut Vec<u8>) -> Resu
 }
 
 /// Adds bytes, behind their length where they are a byte array's.
+#[inline(always)]
 fn put_raw(kind: ColumnKind, bytes: &[u8], values: &mut Vec<u8>) -> Result<(), OutOfMemory>
     requires { columns.IsValueOf kind (bytes_cell bytes.now) }
     ensures put { OnOk result (values.new.items ≡ values.old.items ++ columns.text_of kind (bytes_cell bytes.now)) }
@@ -267,6 +271,7 @@ fn put_raw(kind: ColumnKind, bytes: &[u8], values: &mut Vec<u8>) -> Result<(), O
     }
 }
 
+#[inline(always)]
 fn put_array(bytes: &[u8], values: &mut Vec<u8>) -> Result<(), OutOfMemory>
     requires { length bytes.now ≤ 268435456 }
     ensures put { OnOk result (values.new.items ≡ values.old.items ++ (to_le_bytes w32 (length bytes.now) ++ bytes.now)) }
@@ -274,6 +279,9 @@ fn put_array(bytes: &[u8], values: &mut Vec<u8>) -> Result<(), OutOfMemory>
 {
     values.reserve(4 + bytes.len())?;
     values.extend_from_slice(&(bytes.len() as u32).to_le_bytes())?;
+    if bytes.is_empty() {
+        return Ok(());
+    }
     values.extend_from_slice(bytes)?;
     Ok(())
 }

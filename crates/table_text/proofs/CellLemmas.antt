@@ -1,5 +1,5 @@
 -- The sizes of what fields spell.
-use Rattle.std.proofs.Common.{Result, ◌≡◌, ◌==◌, ℕ, ◌≤◌, Option, Some, None, Ok, Err, List, drop, length, get_or, refl, ◌∙◌, arith, inl, inr}
+use Rattle.std.proofs.Common.{Result, ◌≡◌, ◌==◌, ℕ, ◌≤◌, Option, Some, None, Ok, Err, List, [], ◌∷◌, true, drop, length, get_or, refl, ◌∙◌, arith, rules, inl, inr}
 use Rattle.std.proofs.lemmas.Bool.{cases_Bool, eqb-true}
 use Rattle.std.proofs.lemmas.List.{length-drop}
 use Rattle.std.specs.List.{list_any}
@@ -7,9 +7,9 @@ use Rattle.std.specs.Char.{is_ascii_uppercase}
 use Rattle.std.specs.Option.{option_and_then}
 use Rattle.std.specs.Result.{result_ok}
 use Rattle.std.specs.Str.{is_utf8}
-use Rattle.hex.specs.Hex.{decode_of}
+use Rattle.hex.specs.Hex.{decode_of, encode_with}
 use Rattle.hex.specs.declared.error.FromHexError.{FromHexError}
-use Rattle.hex.proofs.HexLemmas.{decode_of-ok}
+use Rattle.hex.proofs.HexLemmas.{decode_of-encode_lower, decode_of-ok}
 use Rattle.parquet_types.specs.declared.column.ColumnKind.{ColumnKind}
 use Rattle.parquet_types.specs.declared.column.ColumnKind.TheVariants.{Boolean, Int32, Int64, Int96, Float, Double, ByteArray, Fixed}
 use Rattle.plain_pages.specs.Cells.{bytes}
@@ -28,6 +28,12 @@ hex_size field xs n e small = elim (cases_Bool (list_any is_ascii_uppercase fiel
       let size = (decode_of-ok field xs (ok_found (decode_of field) xs (rw lower at e))).2 in
       omega arith
 ]
+
+-- a field without a byte spells no byte
+pub hex_of_empty : (field : List ℕ) → (length field == 0) ≡ true → hex_read field ≡ Some field
+unfolding hex_read encode_with
+hex_of_empty [] e = rw (decode_of-encode_lower [] (search rules)) refl
+hex_of_empty (b ∷ rest) e = absurd (omega (arith, eqb-true (length (b ∷ rest)) 0 e))
 
 pub text_size : (field xs : List ℕ) (n : ℕ) → text_read field ≡ Some xs → length field ≤ n → length xs ≤ n
 unfolding text_read

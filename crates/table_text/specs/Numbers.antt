@@ -1,18 +1,22 @@
 -- Whole numbers in decimal, as cells and type names spell them: each number in one way.
-use Rattle.std.specs.Prelude.{ℕ, ◌^◌, nat_lt, ℤ, Bool, not, ◌&&◌, ◌||◌, ◌==◌, if◌then◌else◌, List, drop, length, slice_index, Option, Some, None}
+use Rattle.std.specs.Prelude.{ℕ, ◌+◌, ◌-◌, ◌*◌, ◌^◌, nat_lt, ℤ, pos, neg_ℤ, Bool, not, ◌&&◌, ◌||◌, ◌==◌, if◌then◌else◌, List, drop, length, slice_index, Option, Some, None, option_map}
 use Rattle.std.specs.List.{list_all}
 use Rattle.std.specs.Char.{is_ascii_digit}
 use Rattle.std.specs.Int.{Width}
-use Rattle.std.specs.Str.Parse.{signed_digits_value}
+use Rattle.std.specs.Str.Parse.{digits_value, signed_digits_value}
 use lib.Signed.{mag}
 use mir.Val.{hbits}
 
 abbrev pub begins_with_zero : List ℕ → Bool
 begins_with_zero digits = slice_index digits 0 == 48
 
+-- something, and no zero before something else
+abbrev pub front_is_plain : List ℕ → Bool
+front_is_plain digits = not (length digits == 0) && (not (begins_with_zero digits) || (length digits == 1))
+
 -- digits, with no zero before another digit
 unfoldable pub is_plain : List ℕ → Bool
-is_plain digits = list_all is_ascii_digit digits && (not (length digits == 0) && (not (begins_with_zero digits) || (length digits == 1)))
+is_plain digits = list_all is_ascii_digit digits && front_is_plain digits
 
 -- such digits, or `-` before such digits that don't begin with a zero
 unfoldable pub is_decimal : List ℕ → Bool
@@ -28,3 +32,23 @@ when_fits w number = if fits w number then Some number else None
 -- the number that a field spells, if a signed type has it
 unfoldable pub number_read : Width → List ℕ → Option ℤ
 number_read w field = if is_decimal field then when_fits w (signed_digits_value 10 field) else None
+
+-- ---- how a number is read
+-- a number of 64 bits
+abbrev pub when_long : ℕ → Option ℕ
+when_long n = if nat_lt n (2 ^ 64) then Some n else None
+
+-- the number whose digits are those of `value` and one more
+abbrev pub with_digit : ℕ → ℕ → Option ℕ
+with_digit value digit = if is_ascii_digit digit then when_long (value * 10 + (digit - 48)) else None
+
+-- the number that plain digits write, if it has 64 bits
+abbrev pub plain_read : List ℕ → Option ℕ
+plain_read digits = if is_plain digits then when_long (digits_value 10 digits) else None
+
+-- the number that a field spells, if its digits have 64 bits
+unfoldable pub decimal_read : List ℕ → Option ℤ
+decimal_read field =
+    if slice_index field 0 == 45
+    then (if begins_with_zero (drop 1 field) then None else option_map (λ n. neg_ℤ (pos n)) (plain_read (drop 1 field)))
+    else option_map (λ n. pos n) (plain_read field)

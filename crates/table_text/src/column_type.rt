@@ -2,9 +2,8 @@
 ghost use Rattle.std.specs.Prelude.{◌≡◌};
 ghost use Rattle.table_text.specs.Types as types;
 
-use crate::numbers::is_plain;
+use crate::numbers::plain_read;
 use parquet_types::ColumnKind;
-use std::str;
 
 /// What a column's type says: its physical type, whether nulls may stand in it, and whether its bytes are text.
 #[derive(Clone, Copy, Debug, PartialEq, Eq, Drop)]
@@ -76,23 +75,14 @@ fn fixed_read(word: &[u8]) -> Option<u32>
 fn size_read(digits: &[u8]) -> Option<u32>
     ensures { result ≡ types.size_read digits.now }
 {
-    if !is_plain(digits) {
-        return None;
-    }
-    let Ok(text) = str::from_utf8(digits) else {
-        return None;
-    };
-    match text.parse::<u32>() {
-        Ok(size) => when_size(size),
-        Err(_) => None,
-    }
+    when_size(plain_read(digits)?)
 }
 
-fn when_size(size: u32) -> Option<u32>
+fn when_size(size: u64) -> Option<u32>
     ensures { result ≡ types.when_size size }
 {
     if 1 <= size && size <= 65536 {
-        Some(size)
+        Some(size as u32)
     } else {
         None
     }

@@ -178,6 +178,11 @@ fn push_hex(alloc: Global, column: &mut TableColumn, field: &[u8]) -> Result<(),
     ensures kept { column.new.spec ≡ column.old.spec }
     ensures bad { IsErrOf result FieldRefusal.Bad → cells.hex_read field.now ≡ None }
 {
+    // A shorter way for cells of no byte.
+    if field.is_empty() {
+        column.push(CellRef::Bytes(field))?;
+        return Ok(());
+    }
     let Some(bytes) = hex_read(alloc, field)? else {
         return Err(FieldRefusal::Bad);
     };

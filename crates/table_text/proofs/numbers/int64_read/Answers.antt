@@ -1,10 +1,13 @@
-use Rattle.std.proofs.Common.{rules}
+use Rattle.std.proofs.Common.{lit≤, rules, ◌∙◌, sym}
 use Rattle.std.specs.Int.{w64}
-use Rattle.table_text.proofs.Numerals.{no_number, numeral-decimal}
+use Rattle.table_text.proofs.Numerals.{number_fits, number_none}
 use Rattle.table_text.proofs.numbers.int64_read.Goals as goal
 
-pub returns-in_default : goal.returns-in_default
-returns-in_default c = absurd (c.in_default.ensures.cases.0 (numeral-decimal c.args.field.now (search rules)).1)
+pub returns-in_err-decimal_read : goal.returns-in_err-decimal_read
+returns-in_err-decimal_read c =
+    c.from_residual.ensures ∙ number_none w64 c.args.field.now (lit≤ tt) (sym c.decimal_read.ensures ∙ c.in_err-decimal_read.was)
 
-pub returns-in-Err : goal.returns-in-Err
-returns-in-Err c = no_number w64 c.args.field.now c.in-Ok.text.now c.in-Ok.ensures.cases.0 (search rules) c.in-Err.ensures.value.0
+pub returns : goal.returns
+returns c =
+    c.ok.ensures.value ∙
+    number_fits w64 c.args.field.now c.in_ok-decimal_read.field-0 c.try_from.result (sym c.decimal_read.ensures ∙ c.in_ok-decimal_read.was) (search rules) c.try_from.ensures

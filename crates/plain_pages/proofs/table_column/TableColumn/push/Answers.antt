@@ -9,8 +9,8 @@ pub invariant_of-self-2 : goal.invariant_of-self-2
 invariant_of-self-2 c =
     let inside = c.self.inside in
     let cells = cells_kept inside.spec.kind inside.levels.items inside.values.items in
-    let levels : c.push.new.self.items ≡ inside.levels.items ++ level_of (cell_of c.args.cell) ∷ [] =
-    c.in_ok-push.ensures.items ∙ rw (c.in_ok-reserve.ensures.items, c.level_of.ensures) in
+    let levels : c.push_reserved.new.self.items ≡ inside.levels.items ++ level_of (cell_of c.args.cell) ∷ [] =
+    c.push_reserved.ensures.items ∙ rw (c.in_ok-reserve.ensures.items, c.level_of.ensures) in
     let count : c.len.result ≡ length inside.levels.items = omega (arith, c.len.ensures, c.in_ok-reserve.ensures.len, inside.levels.ok) in
     let place : c.len-2.result ≡ length inside.values.items = omega (arith, c.len-2.ensures, inside.values.ok) in
     let marks : c.put_mark.new.marks.items ≡ marked (length inside.levels.items) (length inside.values.items) inside.marks.items =
@@ -28,8 +28,8 @@ pub returns-clause-pushed : goal.returns-clause-pushed
 returns-clause-pushed c =
     let inside = c.self.inside in
     let cells = cells_kept inside.spec.kind inside.levels.items inside.values.items in
-    let levels : c.push.new.self.items ≡ inside.levels.items ++ level_of (cell_of c.args.cell) ∷ [] =
-    c.in_ok-push.ensures.items ∙ rw (c.in_ok-reserve.ensures.items, c.level_of.ensures) in
+    let levels : c.push_reserved.new.self.items ≡ inside.levels.items ++ level_of (cell_of c.args.cell) ∷ [] =
+    c.push_reserved.ensures.items ∙ rw (c.in_ok-reserve.ensures.items, c.level_of.ensures) in
     let spec : inside.spec ≡ c.args.self.now.spec = ap (λ (v : Column). v.spec) c.self.view_is in
     let one : IsCellOf inside.spec (cell_of c.args.cell) = rw spec c.requires in
     with_cells inside.spec c.args.self.now cells _ (cell_of c.args.cell) spec (ap (λ (v : Column). v.cells) c.self.view_is)
