@@ -11,7 +11,7 @@ use table_text::{
     CellTexts, Choice, TableRefusal, cell_text, generate, header_text, row_text, table_from_csv,
 };
 
-// A text, where `/` stands for a line feed, and behind a space what it is read as.
+// A text, where `/` stands for a line feed and `~` for the byte 0xff, and behind a space what it is read as.
 const CASES: &str = r#"
 id:int64,name:text?,secret:bytes/1,ann,00ff/2,\N,/3,,ab/4,"a,b",cd Int64(1);Bytes([97,110,110]);Bytes([0,255]);Int64(2);Null;Bytes([]);Int64(3);Bytes([]);Bytes([171]);Int64(4);Bytes([97,44,98]);Bytes([205]);
 id:int64,name:text?,secret:bytes/1,ann 1,3
@@ -45,6 +45,13 @@ a:bool?,b:bool/true,false Bool(true);Bool(false);
 a:bool/True 1,0
 a:text/"" Bytes([]);
 a:text/\\N Bytes([92,78]);
+a:text/é/1234567/12345678/123456é Bytes([195,169]);Bytes([49,50,51,52,53,54,55]);Bytes([49,50,51,52,53,54,55,56]);Bytes([49,50,51,52,53,54,195,169]);
+a:text/~ 1,0
+a:text/123456~ 1,0
+a:text/1234567~ 1,0
+a:text/é~ 1,0
+a:bytes/~ 1,0
+~:text/ 0,0
 a:text/\N 1,0
 a:text?/\x 1,0
 a:float,b:double/00000001,0000000000000002 Bytes([0,0,0,1]);Bytes([0,0,0,0,0,0,0,2]);
@@ -99,12 +106,27 @@ fn shown(alloc: Global, table: &Table) -> Result<String, AllocError> {
     Ok(text)
 }
 
+fn bytes_of(alloc: Global, case: &str) -> Result<Vec<u8>, AllocError> {
+    let mut bytes = Vec::new(alloc);
+    for byte in case.bytes() {
+        let told = match byte {
+            b'/' => b'\n',
+            b'~' => 0xff,
+            other => other,
+        };
+        if bytes.push(told).is_err() {
+            return Err(AllocError);
+        }
+    }
+    Ok(bytes)
+}
+
 fn told(alloc: Global, case: &str) -> Result<String, AllocError> {
-    let text = case.replace(alloc, '/', "\n")?;
+    let text = bytes_of(alloc, case)?;
     if text.len() > 268_435_456 {
         return Err(AllocError);
     }
-    match table_from_csv(alloc, text.as_bytes()) {
+    match table_from_csv(alloc, text.as_slice()) {
         Ok(table) => shown(alloc, &table),
         Err(TableRefusal::Bad { entry, field }) => format!(in alloc; "{entry},{field}"),
         Err(TableRefusal::OutOfMemory) => Err(AllocError),

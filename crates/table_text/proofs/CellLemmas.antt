@@ -1,12 +1,13 @@
 -- The sizes of what fields spell.
-use Rattle.std.proofs.Common.{Result, ◌≡◌, ◌==◌, ℕ, ◌≤◌, Option, Some, None, Ok, Err, List, [], ◌∷◌, true, drop, length, get_or, refl, ◌∙◌, arith, rules, inl, inr}
-use Rattle.std.proofs.lemmas.Bool.{cases_Bool, eqb-true}
+use Rattle.std.proofs.Common.{zero, suc, Result, ◌≡◌, ◌==◌, ℕ, ◌≤◌, Option, Some, None, Ok, Err, List, [], ◌∷◌, true, drop, length, get_or, refl, ◌∙◌, arith, rules, inl, inr}
+use Rattle.std.proofs.lemmas.Bool.{and_parts, cases_Bool, eqb-true, ltb-true}
 use Rattle.std.proofs.lemmas.List.{length-drop}
-use Rattle.std.specs.List.{list_any}
-use Rattle.std.specs.Char.{is_ascii_uppercase}
+use Rattle.std.specs.List.{list_all, list_any}
+use Rattle.std.specs.Char.{is_ascii, is_ascii_uppercase}
 use Rattle.std.specs.Option.{option_and_then}
 use Rattle.std.specs.Result.{result_ok}
-use Rattle.std.specs.Str.{is_utf8}
+use Rattle.std.specs.Str.{IsAscii, is_utf8}
+use Rattle.std.proofs.lemmas.Str.{IsUtf8-from_ascii, is_utf8-from_IsUtf8}
 use Rattle.hex.specs.Hex.{decode_of, encode_with}
 use Rattle.hex.specs.declared.error.FromHexError.{FromHexError}
 use Rattle.hex.proofs.HexLemmas.{decode_of-encode_lower, decode_of-ok}
@@ -68,3 +69,13 @@ value_of_size (Fixed n) size xs h e = e ∙ h
 pub sized_value : (kind : ColumnKind) (size : ℕ) (field xs : List ℕ) → IsOfSize size kind → sized_read size field ≡ Some xs → IsValueOf kind (bytes xs)
 unfolding sized_read
 sized_value kind size field xs h e = value_of_size kind size xs h (of_size_is size (hex_read field) xs e)
+
+-- ---- text
+all_ascii : (xs : List ℕ) → list_all is_ascii xs ≡ true → IsAscii xs
+all_ascii [] e i = omega arith
+all_ascii (x ∷ xs) e zero = ltb-true _ _ (and_parts _ _ e).0
+all_ascii (x ∷ xs) e (suc i) = all_ascii xs (and_parts _ _ e).1 i
+
+-- ASCII is text
+pub ascii_text : (xs : List ℕ) → list_all is_ascii xs ≡ true → is_utf8 xs ≡ true
+ascii_text xs e = is_utf8-from_IsUtf8 xs (IsUtf8-from_ascii xs (all_ascii xs e))

@@ -7,7 +7,7 @@ use Rattle.std.proofs.lemmas.Int.Digits.{digits_value_more}
 use Rattle.std.proofs.lemmas.List.Folds.{list_all_at, list_all_more}
 use Rattle.std.proofs.lemmas.Str.{digit_value_digit}
 use Rattle.std.proofs.lemmas.Str.Parse.{IsNumeralModel, numerals_by_value, digits_value-take-le}
-use Rattle.std.specs.Prelude.{FitsSigned, nat_lt, zero, suc, ◌⊎◌, Result, Ok, Err, drop, option_map}
+use Rattle.std.specs.Prelude.{FitsSigned, nat_le, nat_lt, zero, suc, ◌⊎◌, Result, Ok, Err, drop, option_map}
 use Rattle.std.specs.Result.{OkIff, result_ok}
 use Rattle.std.specs.List.{list_all}
 use Rattle.std.specs.Char.{digit_value, is_ascii_digit}
@@ -30,7 +30,7 @@ bad_front ds bad = rw (bad, and-false (list_all is_ascii_digit ds)) refl
 -- a digit's value
 digit_code : (d : ℕ) → is_ascii_digit d ≡ true → digit_value d ≡ d - 48
 digit_code d digit =
-    let range = and_parts _ _ digit in
+    let range : (nat_le 48 d ≡ true) × (nat_le d 57 ≡ true) = and_parts _ _ digit in
     omega (arith, digit_value_digit d (leb-true _ _ range.0, leb-true _ _ range.1))
 
 more_value : (ds : List ℕ) (i : ℕ) → i < length ds → is_ascii_digit (get_or ds i 0) ≡ true

@@ -1,7 +1,7 @@
 // The values that fields of a record spell.
 ghost use Rattle.std.specs.Prelude.{◌≡◌, IfOk, option_map};
-ghost use Rattle.std.specs.List.{list_any};
-ghost use Rattle.std.specs.Char.{is_ascii_uppercase};
+ghost use Rattle.std.specs.List.{list_all, list_any};
+ghost use Rattle.std.specs.Char.{is_ascii, is_ascii_uppercase};
 ghost use Rattle.std.specs.Str.{is_utf8 as utf8_test};
 ghost use Rattle.table_text.specs.Cells as cells;
 
@@ -79,13 +79,24 @@ pub fn text_read<'a>(field: &'a [u8]) -> Option<&'a [u8]>
 }
 
 /// Whether these bytes are text.
+#[tactic(auto, using(crate::proofs::CellLemmas::ascii_text))]
 pub fn is_utf8(bytes: &[u8]) -> bool
     ensures { result ≡ utf8_test bytes.now }
 {
+    // Most cells are short and ASCII, which is seen sooner than `from_utf8` is called.
+    if bytes.len() < 8 && are_ascii(bytes) {
+        return true;
+    }
     match str::from_utf8(bytes) {
         Ok(_) => true,
         Err(_) => false,
     }
+}
+
+fn are_ascii(bytes: &[u8]) -> bool
+    ensures { result ≡ list_all is_ascii bytes.now }
+{
+    bytes.iter().all(|byte| byte.is_ascii())
 }
 
 fn has_uppercase(field: &[u8]) -> bool
