@@ -6,7 +6,7 @@
 # the crates.
 set -eu
 . "$(dirname "$0")/throwaway.sh"
-throw_away tables_bench 'pme_base parquet_types hybrid_runs plain_pages table_text' 'table_text plain_pages parquet_types pme_base csv anyhow'
+throw_away tables_bench 'pme_base parquet_types hybrid_runs plain_pages table_text' 'table_text plain_pages parquet_types pme_base anyhow'
 cat > "$program/src/main.rt" <<'RT'
 // Times tables: generated, written as text, and read back.
 #![tactic(auto)]
@@ -16,7 +16,6 @@ ghost use Rattle.std.specs.List.{AllByRecursion};
 ghost use Rattle.plain_pages.specs.Columns.{rows_of};
 
 use anyhow::{Result, anyhow};
-use csv::{ByteRecord, ReaderBuilder};
 use parquet_types::{ColumnSpec, FlatSchema};
 use plain_pages::Table;
 use pme_base::{Bytes, OutOfMemory};
@@ -103,37 +102,17 @@ fn generate_and_write(rt: &HostRuntime) -> Result<()> {
     Ok(())
 }
 
-/// How many fields the kit's reader of records finds.
-fn fields_alone(alloc: Global, text: &[u8]) -> Result<u64> {
-    let mut reader = ReaderBuilder::new().has_headers(false).flexible(true).from_reader(alloc, text);
-    let mut record = ByteRecord::new(alloc);
-    let mut fields: u64 = 0;
-    for _ in 0..u64::MAX {
-        let Ok(found) = reader.read_byte_record(&mut record) else {
-            return Err(anyhow!("no record"));
-        };
-        if !found {
-            break;
-        }
-        fields = fields.wrapping_add(record.len() as u64);
-    }
-    Ok(fields)
-}
-
 fn read(rt: &HostRuntime, text: &[u8]) -> Result<()> {
     if text.len() > 268_435_456 {
         return Err(anyhow!("too long"));
     }
-    let before = rt.thread_cpu_time()?;
-    let fields = fields_alone(rt.alloc(), text)?;
     let start = rt.thread_cpu_time()?;
     let Ok(table) = table_from_csv(rt.alloc(), text) else {
         return Err(anyhow!("no table"));
     };
     let end = rt.thread_cpu_time()?;
     let took = end.saturating_sub(start).as_nanos();
-    let alone = start.saturating_sub(before).as_nanos();
-    println!(rt; "{took} {alone} {} {} {} {fields}", text.len(), table.columns(), table.rows())?;
+    println!(rt; "{took} {} {} {}", text.len(), table.columns(), table.rows())?;
     Ok(())
 }
 
@@ -172,29 +151,66 @@ ANTT
 invariant schema_of 'length l.schema ≡ l.column'
 invariant row_cells 'length l.cells ≡ l.column'
 invariant all_columns '(length l.chosen ≡ l.column) × AllByRecursion (λ (column : ℕ). column < l.fn.count) l.chosen'
+# The kit's reader of records by itself: a program of its own, so that neither changes how the other is compiled.
+records="$work/crates/records_bench"
+mkdir -p "$records/src"
+echo 'records_bench: csv anyhow' >> "$work/crates.txt"
+cat > "$records/src/main.rt" <<'RT'
+// Times the reading of a text's records.
+#![tactic(auto)]
+
+use anyhow::{Result, anyhow};
+use csv::{ByteRecord, ReaderBuilder};
+use std::fs;
+use std::time::CpuClock;
+
+fn main(rt: HostRuntime) -> Result<()> {
+    let Ok(text) = fs::read(&rt, "table.csv") else {
+        return Ok(());
+    };
+    let start = rt.thread_cpu_time()?;
+    let mut reader = ReaderBuilder::new().has_headers(false).flexible(true).from_reader(rt.alloc(), text.as_slice());
+    let mut record = ByteRecord::new(rt.alloc());
+    let mut fields: u64 = 0;
+    for _ in 0..u64::MAX {
+        let Ok(found) = reader.read_byte_record(&mut record) else {
+            return Err(anyhow!("no record"));
+        };
+        if !found {
+            break;
+        }
+        fields = fields.wrapping_add(record.len() as u64);
+    }
+    let took = rt.thread_cpu_time()?.saturating_sub(start).as_nanos();
+    println!(rt; "{took} {fields}")?;
+    Ok(())
+}
+RT
+(cd "$records" && rt run > /dev/null 2> "$work/rt.log") || { tail -n 40 "$work/rt.log"; exit 1; }
 (cd "$program" && rt run > "$work/ours.txt" 2> "$work/rt.log") || { cat "$work/ours.txt" "$work/rt.log" | tail -n 40; exit 1; }
 cd "$work"
-python3 - "$program/out/tables_bench" <<'PY'
+python3 - "$program/out/tables_bench" "$records/out/records_bench" <<'PY'
 import os, subprocess, sys
-def run():
-    child = subprocess.Popen([sys.argv[1]], stdout=subprocess.PIPE)
+def run(program):
+    child = subprocess.Popen([program], stdout=subprocess.PIPE)
     words = child.stdout.read().split()
     _, status, usage = os.wait4(child.pid, 0)
     assert status == 0
     return [int(word) for word in words], usage.ru_maxrss * 1024
-def times(generated, count):
+def times(program, generated, count):
     best, memory = None, 0
     for _ in range(count):
         if generated and os.path.exists("table.csv"):
             os.remove("table.csv")
-        numbers, held = run()
+        numbers, held = run(program)
         best = numbers if best is None else [min(pair) for pair in zip(best, numbers)]
         memory = max(memory, held)
     return best, memory
-(making, writing, size), _ = times(True, 3)
+(making, writing, size), _ = times(sys.argv[1], True, 3)
 print(f"a million rows: generated in {making / 1e9:.2f} s, written in {writing / 1e9:.2f} s as {size / 1e6:.1f} MB")
 def reading(name):
-    (took, alone, size, columns, rows, fields), memory = times(False, 9)
+    (took, size, columns, rows), memory = times(sys.argv[1], False, 9)
+    (alone, fields), _ = times(sys.argv[2], False, 9)
     assert fields == columns * (rows + 1)
     print(f"read {name}: {size * 1000 / took:.0f} MB/s (records alone {size * 1000 / alone:.0f}), {memory / size:.1f} times its bytes of memory, {rows} rows of {columns} columns", flush=True)
 reading("generated rows")
