@@ -232,6 +232,7 @@ text("short texts", "a:text,b:text,c:text,d:text", "a,b,c,d", 4_000_000)
 text("truths and nulls", "a:bool,b:bool?", "true,\\N", 4_000_000)
 text("two empty cells", "a:bytes,b:bytes", ",", 10_000_000)
 text("three empty cells", "a:bytes,b:bytes,c:bytes", ",,", 10_000_000)
+text("hex of one byte", "a:bytes", "ab", 10_000_000)
 text("three empty texts", "a:text,b:text,c:text", ",,", 10_000_000)
 text("empty texts in quotes", "a:text", '""', 10_000_000)
 def header(name, count):
