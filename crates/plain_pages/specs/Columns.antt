@@ -96,6 +96,11 @@ pub record Keeps (spec : ColumnSpec) (cells : List Cell) (levels marks values : 
   pub values_are : values ≡ values_text spec.kind cells
   pub marks_are : AreMarks spec.kind cells marks
 
+-- the same, with room for the levels of all cells before the next mark
+pub record IsKept (spec : ColumnSpec) (cells : List Cell) (levels marks values : List ℕ) (room : ℕ) : Type 0 where
+  pub kept : Keeps spec cells levels marks values
+  pub roomy : 16 * length marks ≤ room
+
 -- ---- tables
 -- the rows of the first column
 abbrev pub rows_of : List Column → ℕ

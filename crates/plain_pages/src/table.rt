@@ -1,6 +1,7 @@
 ghost use Rattle.std.specs.Prelude.{◌≡◌, ◌<◌, ◌≤◌, ◌-◌, ◌∷◌, ◌++◌, [], length, drop, slice_get, Some, OnOk, OnErr, option_map};
 ghost use Rattle.plain_pages.specs.Cells.{cell_of};
 ghost use Rattle.plain_pages.specs.Columns as columns;
+ghost use Rattle.plain_pages.specs.Columns.{IsTable};
 
 use crate::cell_ref::CellRef;
 use crate::table_column::TableColumn;
@@ -34,6 +35,14 @@ impl Table {
         Table {
             columns: Vec::new(alloc),
         }
+    }
+
+    /// The table of these columns, which have one length.
+    pub fn from_columns(columns: Vec<TableColumn>) -> Table
+        requires { IsTable «columns».items }
+        ensures { result ≡ «columns».items }
+    {
+        Table { columns }
     }
 
     /// Adds a column behind the others. It has as many cells as those have.

@@ -1,5 +1,5 @@
 ghost use Rattle.std.specs.Prelude.{◌≡◌, ◌+◌, ◌<◌, ◌≤◌, ◌-◌, ◌∷◌, ◌++◌, [], length, take, drop, slice_get, Some, OnOk, OnErr};
-ghost use Rattle.std.specs.Prelude.{slice_index, ◌%◌};
+ghost use Rattle.std.specs.Prelude.{slice_index, ◌%◌, ◌*◌, IsOk, vec_len, vec_capacity};
 ghost use Rattle.std.specs.Int.{w32, to_le_bytes};
 ghost use Rattle.plain_pages.specs.Cells.{cell_of, bytes as bytes_cell};
 ghost use Rattle.plain_pages.specs.Columns as columns;
@@ -27,13 +27,14 @@ pub struct TableColumn {
 }
 
 impl Model for TableColumn {
-    ghost use Rattle.plain_pages.specs.Columns.{Column, Keeps, cells_kept};
+    ghost use Rattle.std.specs.Prelude.{vec_capacity};
+    ghost use Rattle.plain_pages.specs.Columns.{Column, IsKept, cells_kept};
 
     ghost Value = { Column };
 
     ghost view = { λ c. record { spec = c.spec; cells = cells_kept c.spec.kind c.levels.items c.values.items } };
 
-    ghost invariant = { λ c. Keeps c.spec (cells_kept c.spec.kind c.levels.items c.values.items) c.levels.items c.marks.items c.values.items };
+    ghost invariant = { λ c. IsKept c.spec (cells_kept c.spec.kind c.levels.items c.values.items) c.levels.items c.marks.items c.values.items (vec_capacity c.levels) };
 }
 
 impl TableColumn {
@@ -57,7 +58,7 @@ impl TableColumn {
     }
 
     /// What the column is.
-    pub(crate) fn spec(&self) -> &ColumnSpec
+    pub fn spec(&self) -> &ColumnSpec
         ensures { result.now ≡ self.now.spec }
     {
         &self.spec
@@ -72,8 +73,7 @@ impl TableColumn {
         ensures pushed { OnOk result (self.new ≡ record self.old { cells = self.old.cells ++ cell_of cell.entry ∷ [] }) }
         ensures unchanged { OnErr result (self.new ≡ self.old) }
     {
-        self.levels.reserve(1)?;
-        put_mark(self.levels.len(), self.values.len(), &mut self.marks)?;
+        put_mark(self.values.len(), &mut self.levels, &mut self.marks)?;
         put_value(&self.spec, cell, &mut self.values)?;
         self.levels.push_reserved(level_of(cell));
         Ok(())
@@ -201,14 +201,34 @@ fn part(bytes: &[u8], start: usize, end: usize) -> &[u8]
     &bytes[start..end]
 }
 
-/// Marks the place of the cell behind so many others, where a mark is due.
-fn put_mark(count: usize, place: usize, marks: &mut Vec<usize>) -> Result<(), OutOfMemory>
-    ensures marked { OnOk result (marks.new.items ≡ columns.marked count place marks.old.items) }
+/// Marks the place of the next cell where a mark is due, and then sees to room for the levels up to the mark behind it.
+#[inline(always)]
+fn put_mark(place: usize, levels: &mut Vec<u8>, marks: &mut Vec<usize>) -> Result<(), OutOfMemory>
+    requires { 16 * length marks.old.items ≤ vec_capacity levels.old }
+    ensures marked { OnOk result (marks.new.items ≡ columns.marked (length levels.old.items) place marks.old.items) }
     ensures unchanged { OnErr result (marks.new.items ≡ marks.old.items) }
+    ensures levels { levels.new.items ≡ levels.old.items }
+    ensures room { 16 * length marks.new.items ≤ vec_capacity levels.new }
 {
-    if count / 16 == marks.len() {
-        marks.push(place)?;
+    if levels.len() / 16 == marks.len() {
+        add_mark(place, levels, marks)?;
     }
+    Ok(())
+}
+
+// Of sixteen cells one comes here: it stands apart, so that what adds the others stays short.
+#[cold]
+#[inline(never)]
+fn add_mark(place: usize, levels: &mut Vec<u8>, marks: &mut Vec<usize>) -> Result<(), OutOfMemory>
+    requires room { 16 * length marks.old.items ≤ vec_capacity levels.old }
+    requires due { 16 * length marks.old.items ≤ length levels.old.items }
+    ensures marked { OnOk result (marks.new.items ≡ marks.old.items ++ place ∷ []) }
+    ensures unchanged { OnErr result (marks.new.items ≡ marks.old.items) }
+    ensures levels { levels.new.items ≡ levels.old.items }
+    ensures room { 16 * length marks.new.items ≤ vec_capacity levels.new }
+{
+    levels.reserve(16)?;
+    marks.push(place)?;
     Ok(())
 }
 
@@ -277,19 +297,58 @@ fn put_array(bytes: &[u8], values: &mut Vec<u8>) -> Result<(), OutOfMemory>
     ensures put { OnOk result (values.new.items ≡ values.old.items ++ (to_le_bytes w32 (length bytes.now) ++ bytes.now)) }
     ensures unchanged { OnErr result (values.new.items ≡ values.old.items) }
 {
-    values.reserve(4 + bytes.len())?;
+    make_room(4 + bytes.len(), values)?;
     values.extend_from_slice(&(bytes.len() as u32).to_le_bytes())?;
-    if bytes.is_empty() {
+    put_within(bytes, values)
+}
+
+/// Adds bytes to the end, or leaves `values` as they are.
+#[inline(always)]
+pub fn put_bytes(bytes: &[u8], values: &mut Vec<u8>) -> Result<(), OutOfMemory>
+    ensures put { OnOk result (values.new.items ≡ values.old.items ++ bytes.now) }
+    ensures unchanged { OnErr result (values.new.items ≡ values.old.items) }
+{
+    make_room(bytes.len(), values)?;
+    values.extend_from_slice(bytes)?;
+    Ok(())
+}
+
+/// Adds bytes for which there is room. Few are added one by one: most texts are short, and a call takes longer.
+#[inline(always)]
+fn put_within(bytes: &[u8], values: &mut Vec<u8>) -> Result<(), OutOfMemory>
+    requires { vec_len values.old + length bytes.now ≤ vec_capacity values.old }
+    ensures put { values.new.items ≡ values.old.items ++ bytes.now }
+    ensures succeeds { IsOk result }
+{
+    if bytes.len() < 8 {
+        for byte in bytes {
+            values.push_reserved(*byte);
+        }
         return Ok(());
     }
     values.extend_from_slice(bytes)?;
     Ok(())
 }
 
-pub fn put_bytes(bytes: &[u8], values: &mut Vec<u8>) -> Result<(), OutOfMemory>
-    ensures put { OnOk result (values.new.items ≡ values.old.items ++ bytes.now) }
-    ensures unchanged { OnErr result (values.new.items ≡ values.old.items) }
+/// Sees to room for so many bytes more.
+#[inline(always)]
+fn make_room(more: usize, values: &mut Vec<u8>) -> Result<(), OutOfMemory>
+    ensures room { OnOk result (vec_len values.new + more ≤ vec_capacity values.new) }
+    ensures unchanged { values.new.items ≡ values.old.items }
 {
-    values.extend_from_slice(bytes)?;
+    if values.capacity() - values.len() < more {
+        grow(more, values)?;
+    }
+    Ok(())
+}
+
+// Stands apart as `add_mark` does.
+#[cold]
+#[inline(never)]
+fn grow(more: usize, values: &mut Vec<u8>) -> Result<(), OutOfMemory>
+    ensures room { OnOk result (vec_len values.new + more ≤ vec_capacity values.new) }
+    ensures unchanged { values.new.items ≡ values.old.items }
+{
+    values.reserve(more)?;
     Ok(())
 }

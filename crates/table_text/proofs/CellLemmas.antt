@@ -1,5 +1,5 @@
 -- The sizes of what fields spell.
-use Rattle.std.proofs.Common.{zero, suc, Result, ◌≡◌, ◌==◌, ℕ, ◌≤◌, Option, Some, None, Ok, Err, List, [], ◌∷◌, true, drop, length, get_or, refl, ◌∙◌, arith, rules, inl, inr}
+use Rattle.std.proofs.Common.{zero, suc, Result, MatchResult, false, is_err, ap, sym, ◌≡◌, ◌==◌, ◌/◌, ℕ, ◌≤◌, Option, Some, None, Ok, Err, List, [], ◌∷◌, true, drop, length, get_or, refl, ◌∙◌, arith, rules, inl, inr}
 use Rattle.std.proofs.lemmas.Bool.{and_parts, cases_Bool, eqb-true, ltb-true}
 use Rattle.std.proofs.lemmas.List.{length-drop}
 use Rattle.std.specs.List.{list_all, list_any}
@@ -8,7 +8,7 @@ use Rattle.std.specs.Option.{option_and_then}
 use Rattle.std.specs.Result.{result_ok}
 use Rattle.std.specs.Str.{IsAscii, is_utf8}
 use Rattle.std.proofs.lemmas.Str.{IsUtf8-from_ascii, is_utf8-from_IsUtf8}
-use Rattle.hex.specs.Hex.{decode_of, encode_with}
+use Rattle.hex.specs.Hex.{decode_of, decode_sized, encode_with}
 use Rattle.hex.specs.declared.error.FromHexError.{FromHexError}
 use Rattle.hex.proofs.HexLemmas.{decode_of-encode_lower, decode_of-ok}
 use Rattle.parquet_types.specs.declared.column.ColumnKind.{ColumnKind}
@@ -20,6 +20,16 @@ use Rattle.table_text.specs.Cells.{IsOfSize, hex_read, of_size, sized_read, text
 ok_found : (r : Result (List ℕ) FromHexError) (xs : List ℕ) → result_ok r ≡ Some xs → r ≡ Ok xs
 ok_found (Ok ys) xs e = let same : ys ≡ xs = cc e in rw same refl
 ok_found (Err w) xs e = cc e
+
+-- decoding into room for half as many bytes is decoding
+pub sized_whole : (field : List ℕ) → decode_sized field (length field / 2) ≡ decode_of field
+sized_whole field = let same : (length field / 2 == length field / 2) ≡ true = grind arith in rw same refl
+
+-- what decoding left in its room, where it answered well
+pub decoded : (r : Result (List ℕ) FromHexError) (answer : Result (Unit {0}) FromHexError) (after : List ℕ)
+    → MatchResult r (λ xs. (answer ≡ Ok tt) × (after ≡ xs)) (λ e. answer ≡ Err e) → is_err answer ≡ false → result_ok r ≡ Some after
+decoded (Ok xs) answer after m good = ap Some (sym m.1)
+decoded (Err e) answer after m good = cc (rw m at good)
 
 pub hex_size : (field xs : List ℕ) (n : ℕ) → hex_read field ≡ Some xs → length field ≤ n → length xs ≤ n
 unfolding hex_read

@@ -9,7 +9,7 @@ use Rattle.csv.specs.Records.{field_at}
 use Rattle.pme_base.specs.Steps.{◌>>=◌}
 use Rattle.parquet_types.specs.declared.column.ColumnSpec.{ColumnSpec}
 use Rattle.plain_pages.specs.Cells.{Cell}
-use Rattle.plain_pages.specs.Columns.{AreOfLength, Column, IsCellOf, IsNextColumn, IsTable}
+use Rattle.plain_pages.specs.Columns.{AreOfLength, Column, IsCellOf, IsTable}
 use Rattle.table_text.proofs.HeaderLemmas.{field_found, onto}
 use Rattle.table_text.specs.Cells.{cell_read}
 use Rattle.table_text.specs.Headers.{Names, columns_read, empty_column, new_heading}
@@ -98,14 +98,6 @@ pub even_table : (fields : List (List ℕ)) (rows : List (List (List ℕ))) (col
 even_table fields rows columns more header added =
     let even = even_rows rows 0 1 columns more (even_header fields 0 empty columns header) added in
     is_table even.0 more even.1
-
-next_of_length : (n : ℕ) (done : List Column) (column : Column) (rest : List Column) → AreOfLength n (done ++ column ∷ rest) → length column.cells ≡ n
-next_of_length n [] column rest h = h.0
-next_of_length n (d ∷ done) column rest h = next_of_length n done column rest h.1
-
-pub next_column : (done : List Column) (column : Column) (rest : List Column) → IsTable (done ++ column ∷ rest) → IsNextColumn done column
-next_column [] column rest h = tt
-next_column (d ∷ done) column rest h = next_of_length (length d.cells) done column rest h.1
 
 -- a record that is added
 pub rows_step : (entry : ℕ) (columns more : List Column) (row : List (List ℕ)) (all rest : List (List (List ℕ))) → all ≡ row ∷ rest

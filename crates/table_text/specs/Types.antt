@@ -1,10 +1,9 @@
 -- The types of columns as a table's header names them.
-use Rattle.std.specs.Prelude.{◌≡◌, ℕ, ◌-◌, nat_le, Bool, true, false, ◌&&◌, ◌==◌, if◌then◌else◌, List, take, drop, length, slice_index, codes, Option, Some, None, option_map}
+use Rattle.std.specs.Prelude.{ℕ, ◌-◌, nat_le, Bool, true, false, ◌&&◌, ◌==◌, if◌then◌else◌, List, take, drop, length, slice_index, codes, Option, Some, None, option_map}
 use Rattle.std.specs.Str.{bytes_eq}
 use Rattle.std.specs.Str.Parse.{digits_value}
 use Rattle.parquet_types.specs.declared.column.ColumnKind.{ColumnKind}
 use Rattle.parquet_types.specs.declared.column.ColumnKind.TheVariants.{Boolean, Int32, Int64, Int96, Float, Double, ByteArray, Fixed}
-use Rattle.parquet_types.specs.declared.column.ColumnSpec.{ColumnSpec}
 use Rattle.table_text.specs.declared.column_type.ColumnType.{ColumnType}
 use Rattle.table_text.specs.Numbers.{is_plain}
 
@@ -41,9 +40,3 @@ type_named optional word =
 unfoldable pub type_read : List ℕ → Option ColumnType
 type_read word =
     if slice_index word (length word - 1) == 63 then type_named true (take (length word - 1) word) else type_named false word
-
--- a column of a type, whatever its name
-pub record IsOfType (type : ColumnType) (spec : ColumnSpec) : Type 0 where
-  pub kind : spec.kind ≡ type.kind
-  pub optional : spec.optional ≡ type.optional
-  pub text : spec.text ≡ type.text

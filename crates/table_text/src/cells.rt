@@ -5,9 +5,7 @@ ghost use Rattle.std.specs.Char.{is_ascii, is_ascii_uppercase};
 ghost use Rattle.std.specs.Str.{is_utf8 as utf8_test};
 ghost use Rattle.table_text.specs.Cells as cells;
 
-use hex::FromHexError;
 use pme_base::OutOfMemory;
-use std::alloc::Global;
 use std::str;
 
 #[tactic(auto, unfolding(crate::specs::Cells::truth_read))]
@@ -23,36 +21,38 @@ pub fn truth_read(field: &[u8]) -> Option<bool>
     }
 }
 
-/// The bytes of hexadecimal digits in lower case.
-#[tactic(auto, unfolding(crate::specs::Cells::hex_read))]
-pub fn hex_read(alloc: Global, field: &[u8]) -> Result<Option<Vec<u8>>, OutOfMemory>
-    ensures { IfOk result (λ o. option_map (λ v. v.items) o ≡ cells.hex_read field.now) }
+/// The bytes of hexadecimal digits in lower case, which are put into `room` in place of what it holds.
+#[tactic(auto, using(crate::proofs::CellLemmas::sized_whole), unfolding(crate::specs::Cells::hex_read))]
+pub fn hex_read<'a>(field: &[u8], room: &'a mut Vec<u8>) -> Result<Option<&'a [u8]>, OutOfMemory>
+    ensures { IfOk result (λ o. option_map (λ s. s.now) o ≡ cells.hex_read field.now) }
 {
     if has_uppercase(field) {
         return Ok(None);
     }
-    match hex::decode(alloc, field) {
-        Ok(bytes) => Ok(Some(bytes)),
-        Err(error) => match error {
-            FromHexError::OutOfMemory => Err(OutOfMemory),
-            _ => Ok(None),
-        },
+    room.resize(field.len() / 2, 0)?;
+    if hex::decode_to_slice(field, room.as_mut_slice()).is_err() {
+        return Ok(None);
     }
+    Ok(Some(room.as_slice()))
 }
 
 /// So many bytes of such digits.
 #[tactic(auto, unfolding(crate::specs::Cells::sized_read))]
-pub fn sized_read(alloc: Global, size: usize, field: &[u8]) -> Result<Option<Vec<u8>>, OutOfMemory>
-    ensures { IfOk result (λ o. option_map (λ v. v.items) o ≡ cells.sized_read size field.now) }
+pub fn sized_read<'a>(
+    size: usize,
+    field: &[u8],
+    room: &'a mut Vec<u8>,
+) -> Result<Option<&'a [u8]>, OutOfMemory>
+    ensures { IfOk result (λ o. option_map (λ s. s.now) o ≡ cells.sized_read size field.now) }
 {
-    match hex_read(alloc, field)? {
+    match hex_read(field, room)? {
         Some(bytes) => Ok(of_size(size, bytes)),
         None => Ok(None),
     }
 }
 
-fn of_size(size: usize, bytes: Vec<u8>) -> Option<Vec<u8>>
-    ensures { option_map (λ v. v.items) result ≡ cells.of_size size bytes.items }
+fn of_size<'a>(size: usize, bytes: &'a [u8]) -> Option<&'a [u8]>
+    ensures { option_map (λ s. s.now) result ≡ cells.of_size size bytes.now }
 {
     if bytes.len() == size {
         Some(bytes)
@@ -87,6 +87,14 @@ pub fn is_utf8(bytes: &[u8]) -> bool
     if bytes.len() < 8 && are_ascii(bytes) {
         return true;
     }
+    is_decoded(bytes)
+}
+
+// Stands apart, so that what reads a short cell stays short.
+#[inline(never)]
+fn is_decoded(bytes: &[u8]) -> bool
+    ensures { result ≡ utf8_test bytes.now }
+{
     match str::from_utf8(bytes) {
         Ok(_) => true,
         Err(_) => false,

@@ -1,17 +1,15 @@
 // Whole tables from their text.
 ghost use Rattle.std.specs.Prelude.{◌≡◌, ◌≤◌, length, Ok, OnOk, IfOk, IfErr};
 ghost use Rattle.csv.specs.Records.{fields_of};
-ghost use Rattle.plain_pages.specs.Columns.{IsTable};
 ghost use Rattle.table_text.specs.Records as records;
 ghost use Rattle.table_text.specs.Tables as tables;
 
-use crate::draft::Draft;
+use crate::fields::push_field;
 use crate::header::read_header;
 use crate::records::{field_of, open, read_next};
 use crate::refusals::{FieldRefusal, RecordRefusal};
 use csv::{ByteRecord, Reader};
-use plain_pages::Table;
-use pme_base::OutOfMemory;
+use plain_pages::{Table, TableColumn};
 use std::alloc::Global;
 
 /// Why a text is no table.
@@ -44,22 +42,20 @@ pub fn table_from_csv(alloc: Global, bytes: &[u8]) -> Result<Table, TableRefusal
         Ok(columns) => columns,
         Err(error) => return Err(in_record(error, 0)),
     };
-    if let Err(error) = read_rows(alloc, &mut reader, &mut record, &mut columns) {
+    let mut room = Vec::new(alloc);
+    if let Err(error) = read_rows(&mut reader, &mut record, &mut columns, &mut room) {
         return Err(error);
     }
-    match table_of(alloc, columns) {
-        Ok(table) => Ok(table),
-        Err(_) => Err(TableRefusal::OutOfMemory),
-    }
+    Ok(Table::from_columns(columns))
 }
 
 /// Adds all records that are left, the first of which has the number 1.
 #[tactic(auto, using(crate::proofs::TableLemmas::rows_step, crate::proofs::TableLemmas::rows_refused))]
 fn read_rows(
-    alloc: Global,
     reader: &mut Reader<&[u8]>,
     record: &mut ByteRecord,
-    columns: &mut Vec<Draft>,
+    columns: &mut Vec<TableColumn>,
+    room: &mut Vec<u8>,
 ) -> Result<(), TableRefusal>
     requires { records.IsReading reader.old }
     ensures ok { OnOk result (tables.rows_added 1 columns.old.items (records.to_come reader.old) ≡ Ok columns.new.items) }
@@ -72,7 +68,7 @@ fn read_rows(
         if !found {
             return Ok(());
         }
-        if let Err(error) = read_row(alloc, columns, record, entry) {
+        if let Err(error) = read_row(columns, record, entry, room) {
             return Err(error);
         }
     }
@@ -80,10 +76,10 @@ fn read_rows(
 }
 
 fn read_row(
-    alloc: Global,
-    columns: &mut Vec<Draft>,
+    columns: &mut Vec<TableColumn>,
     record: &ByteRecord,
     entry: u64,
+    room: &mut Vec<u8>,
 ) -> Result<(), TableRefusal>
     requires { records.AreShort (fields_of record.now) }
     ensures ok { OnOk result (tables.row_read entry columns.old.items (fields_of record.now) ≡ Ok columns.new.items) }
@@ -95,7 +91,7 @@ fn read_row(
             field: columns.len() as u64,
         });
     }
-    match add_record(alloc, columns, record) {
+    match add_record(columns, record, room) {
         Ok(()) => Ok(()),
         Err(error) => Err(in_record(error, entry)),
     }
@@ -110,26 +106,11 @@ fn in_record(error: RecordRefusal, entry: u64) -> TableRefusal
     }
 }
 
-/// The table of these columns.
-fn table_of(alloc: Global, columns: Vec<Draft>) -> Result<Table, OutOfMemory>
-    requires { IsTable columns.items }
-    ensures { IfOk result (λ table. table ≡ columns.items) }
-{
-    let mut table = Table::new(alloc);
-    for draft in columns {
-        match table.add(draft.into_column()) {
-            Ok(()) => {}
-            Err(_) => return Err(OutOfMemory),
-        }
-    }
-    Ok(table)
-}
-
 /// Adds a record's cells to the columns.
 fn add_record(
-    alloc: Global,
-    columns: &mut Vec<Draft>,
+    columns: &mut Vec<TableColumn>,
     record: &ByteRecord,
+    room: &mut Vec<u8>,
 ) -> Result<(), RecordRefusal>
     requires long { length (fields_of record.now) ≡ length columns.old.items }
     requires short { records.AreShort (fields_of record.now) }
@@ -138,7 +119,7 @@ fn add_record(
 {
     for i in 0..columns.len() {
         let field = field_of(record, i);
-        match columns[i].push_field(alloc, field) {
+        match push_field(&mut columns[i], field, room) {
             Ok(()) => {}
             Err(error) => return Err(at_field(error, i as u64)),
         }

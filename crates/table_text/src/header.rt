@@ -7,11 +7,12 @@ ghost use Rattle.table_text.specs.Tables.{IsRecordRefusalOf};
 
 use crate::cells::is_utf8;
 use crate::column_type::{ColumnType, type_read};
-use crate::draft::Draft;
 use crate::records::field_of;
 use crate::refusals::RecordRefusal;
 use csv::ByteRecord;
-use pme_base::{NameSet, OutOfMemory};
+use parquet_types::ColumnSpec;
+use plain_pages::TableColumn;
+use pme_base::{Bytes, NameSet, OutOfMemory};
 use std::alloc::Global;
 
 /// The place of the last colon of a field.
@@ -73,10 +74,27 @@ fn is_name(name: &[u8]) -> bool
     !name.is_empty() && is_utf8(name)
 }
 
+/// A column without cells.
+fn empty_column(
+    alloc: Global,
+    name: &[u8],
+    column_type: ColumnType,
+) -> Result<TableColumn, OutOfMemory>
+    ensures { IfOk result (λ column. column ≡ headers.empty_column name.now column_type) }
+{
+    let spec = ColumnSpec {
+        name: Bytes::copy_of(alloc, name)?,
+        kind: column_type.kind,
+        optional: column_type.optional,
+        text: column_type.text,
+    };
+    Ok(TableColumn::new(alloc, spec))
+}
+
 /// Adds the column that a field of the header names: false where it names none, or one of a name that is there.
 fn add_column(
     alloc: Global,
-    columns: &mut Vec<Draft>,
+    columns: &mut Vec<TableColumn>,
     earlier: &mut NameSet,
     field: &[u8],
 ) -> Result<bool, OutOfMemory>
@@ -90,8 +108,8 @@ fn add_column(
     if !new {
         return Ok(false);
     }
-    let draft = Draft::new(alloc, name, column_type)?;
-    match columns.push(draft) {
+    let column = empty_column(alloc, name, column_type)?;
+    match columns.push(column) {
         Ok(()) => Ok(true),
         Err(_) => Err(OutOfMemory),
     }
@@ -99,7 +117,7 @@ fn add_column(
 
 /// The columns that a header names, without cells.
 #[tactic(auto, using(crate::proofs::HeaderLemmas::column_step, crate::proofs::HeaderLemmas::column_bad))]
-pub fn read_header(alloc: Global, names: &ByteRecord) -> Result<Vec<Draft>, RecordRefusal>
+pub fn read_header(alloc: Global, names: &ByteRecord) -> Result<Vec<TableColumn>, RecordRefusal>
     ensures ok { IfOk result (λ columns. headers.columns_read 0 empty (fields_of names.now) ≡ Ok columns.items) }
     ensures err { IfErr result (λ e. IsRecordRefusalOf (headers.columns_read 0 empty (fields_of names.now)) e) }
 {

@@ -3,7 +3,7 @@
 
 mod cells;
 mod column_type;
-mod draft;
+mod fields;
 mod from_csv;
 mod generated;
 mod header;

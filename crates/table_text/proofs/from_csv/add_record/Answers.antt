@@ -17,7 +17,7 @@ pub loop-i-preserved : goal.loop-i-preserved
 loop-i-preserved c =
     let inside : c.loop-i.i < length c.loop-i.columns.items = omega (arith, c.requires.long, c.loop-i.invariant.long, c.args.columns.now.ok, c.len-i-end.ensures) in
     record {
-      long = c.loop-i.invariant.long ∙ sym (length-set c.loop-i.columns.items c.loop-i.i c.push_field.new.self);
+      long = c.loop-i.invariant.long ∙ sym (length-set c.loop-i.columns.items c.loop-i.i c.push_field.new.column);
       rest = c.loop-i.invariant.rest
-          ∙ row_turn c.loop-i.i c.loop-i.columns.items (fields_of c.args.record.now) c.field_of-field.result.now c.index_mut.result.now c.push_field.new.self inside c.index_mut.ensures.value c.field_of-field.ensures c.in-Ok.ensures.pushed;
+          ∙ row_turn c.loop-i.i c.loop-i.columns.items (fields_of c.args.record.now) c.field_of-field.result.now c.index_mut.result.now c.push_field.new.column inside c.index_mut.ensures.value c.field_of-field.ensures c.in-Ok.ensures.pushed;
     }

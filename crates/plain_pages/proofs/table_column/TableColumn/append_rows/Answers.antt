@@ -8,5 +8,5 @@ pub returns-clause-page : goal.returns-clause-page
 returns-clause-page c =
     let column = c.args.self.now in
     let rows = rows_between c.args.from c.args.to column.cells in
-    let of_spec : AreCellsOf column.spec column.cells = rw (← c.self.view_is) c.self.invariant.of_spec in
+    let of_spec : AreCellsOf column.spec column.cells = rw (← c.self.view_is) c.self.invariant.kept.of_spec in
     page_back column.spec rows (all_rows column.spec c.args.from c.args.to column.cells of_spec) (omega (arith, few_rows c.args.from c.args.to column.cells, c.requires.few))

@@ -18,18 +18,18 @@ returns-clause-cell c =
     let cells = cells_kept kind levels values in
     let seen : cells ≡ c.args.self.now.cells = ap (λ (v : Column). v.cells) c.self.view_is in
     let here : row < length cells = rw seen c.requires in
-    let in_levels : row < length levels = omega (arith, length-levels inside.spec cells levels inside.marks.items values c.self.invariant) in
+    let in_levels : row < length levels = omega (arith, length-levels inside.spec cells levels inside.marks.items values c.self.invariant.kept) in
     let level : get_or levels row 0 ≢ 0 = λ z. c.if-index-eq0.false (get_or_read levels row c.index.result.now in_levels c.index.ensures 0 ∙ z) in
     let start : c.start_of.result ≡ start_of kind cells row = c.start_of.ensures ∙ ap (λ (v : Column). start_of v.spec.kind v.cells row) (sym c.self.view_is) in
     let value : cell_of c.value_at.result ≡ get_or cells row null =
-    c.value_at.ensures ∙ rw (start, c.as_slice.ensures.value) (value_read inside.spec cells levels inside.marks.items values row c.self.invariant here level) in
+    c.value_at.ensures ∙ rw (start, c.as_slice.ensures.value) (value_read inside.spec cells levels inside.marks.items values row c.self.invariant.kept here level) in
     ap (λ cs. slice_get cs row) (sym seen) ∙ slice_get-get_or cells row null here ∙ ap Some (sym value)
 
 pub returns-clause-of_spec : goal.returns-clause-of_spec
 returns-clause-of_spec c =
     let inside = c.self.inside in
     let column = c.args.self.now in
-    let all : AreCellsOf column.spec column.cells = rw (← c.self.view_is) c.self.invariant.of_spec in
+    let all : AreCellsOf column.spec column.cells = rw (← c.self.view_is) c.self.invariant.kept.of_spec in
     let read : get_or column.cells c.args.row null ≡ cell_of c.value_at.result = get_or_from_slice_get column.cells c.args.row (cell_of c.value_at.result) null (returns-clause-cell c) in
     rw (← read) (of_spec_at column.spec column.cells c.args.row all c.requires)
 
@@ -41,9 +41,9 @@ returns-then-index-eq0-clause-of_spec c =
     let cells = cells_kept inside.spec.kind levels inside.values.items in
     let seen : cells ≡ column.cells = ap (λ (v : Column). v.cells) c.self.view_is in
     let here : c.args.row < length cells = rw seen c.requires in
-    let in_levels : c.args.row < length levels = omega (arith, length-levels inside.spec cells levels inside.marks.items inside.values.items c.self.invariant) in
+    let in_levels : c.args.row < length levels = omega (arith, length-levels inside.spec cells levels inside.marks.items inside.values.items c.self.invariant.kept) in
     let level : get_or levels c.args.row 0 ≡ 0 = sym (get_or_read levels c.args.row c.index.result.now in_levels c.index.ensures 0) ∙ c.if-index-eq0.true in
     let read : get_or column.cells c.args.row null ≡ null =
-    ap (λ cs. get_or cs c.args.row null) (sym seen) ∙ null_read inside.spec cells levels inside.marks.items inside.values.items c.args.row c.self.invariant here level in
-    let all : AreCellsOf column.spec column.cells = rw (← c.self.view_is) c.self.invariant.of_spec in
+    ap (λ cs. get_or cs c.args.row null) (sym seen) ∙ null_read inside.spec cells levels inside.marks.items inside.values.items c.args.row c.self.invariant.kept here level in
+    let all : AreCellsOf column.spec column.cells = rw (← c.self.view_is) c.self.invariant.kept.of_spec in
     subst (λ cell. IsCellOf column.spec cell) read (of_spec_at column.spec column.cells c.args.row all c.requires)

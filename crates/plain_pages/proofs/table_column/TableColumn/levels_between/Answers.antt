@@ -9,5 +9,5 @@ returns c =
     let cells = cells_kept inside.spec.kind inside.levels.items inside.values.items in
     c.part.ensures
     ∙ ap (λ ls. take (c.args.to - c.args.from) (drop c.args.from ls)) c.as_slice.ensures.value
-    ∙ levels_cut c.args.from c.args.to cells inside.levels.items c.self.invariant.levels_are
+    ∙ levels_cut c.args.from c.args.to cells inside.levels.items c.self.invariant.kept.levels_are
     ∙ ap (λ (v : Column). levels_of (rows_between c.args.from c.args.to v.cells)) c.self.view_is

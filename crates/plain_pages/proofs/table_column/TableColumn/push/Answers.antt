@@ -10,15 +10,17 @@ invariant_of-self-2 c =
     let inside = c.self.inside in
     let cells = cells_kept inside.spec.kind inside.levels.items inside.values.items in
     let levels : c.push_reserved.new.self.items ≡ inside.levels.items ++ level_of (cell_of c.args.cell) ∷ [] =
-    c.push_reserved.ensures.items ∙ rw (c.in_ok-reserve.ensures.items, c.level_of.ensures) in
-    let count : c.len.result ≡ length inside.levels.items = omega (arith, c.len.ensures, c.in_ok-reserve.ensures.len, inside.levels.ok) in
-    let place : c.len-2.result ≡ length inside.values.items = omega (arith, c.len-2.ensures, inside.values.ok) in
+    c.push_reserved.ensures.items ∙ rw (c.put_mark.ensures.levels, c.level_of.ensures) in
+    let place : c.len.result ≡ length inside.values.items = omega (arith, c.len.ensures, inside.values.ok) in
     let marks : c.put_mark.new.marks.items ≡ marked (length inside.levels.items) (length inside.values.items) inside.marks.items =
-    rw (← count, ← place) c.in_ok-put_mark.ensures.marked in
+    rw (← place) c.in_ok-put_mark.ensures.marked in
     let spec : inside.spec ≡ c.args.self.now.spec = ap (λ (v : Column). v.spec) c.self.view_is in
     let one : IsCellOf inside.spec (cell_of c.args.cell) = rw spec c.requires in
-    rw marks (pushed_keeps inside.spec cells (cell_of c.args.cell) inside.levels.items _ inside.values.items _ _
-    (ready inside.spec cells inside.levels.items inside.marks.items inside.values.items c.self.invariant) one levels c.in_ok-put_value.ensures.put)
+    record {
+      kept = rw marks (pushed_keeps inside.spec cells (cell_of c.args.cell) inside.levels.items _ inside.values.items _ _
+          (ready inside.spec cells inside.levels.items inside.marks.items inside.values.items c.self.invariant.kept) one levels c.in_ok-put_value.ensures.put);
+      roomy = rw c.push_reserved.ensures.capacity c.put_mark.ensures.room;
+    }
 
 with_cells : (spec : ColumnSpec) (old : Column) (cells more : List Cell) (cell : Cell) → spec ≡ old.spec → cells ≡ old.cells → more ≡ cells ++ cell ∷ []
     → (let new : Column = record { spec = spec; cells = more } in new) ≡ record { spec = old.spec; cells = old.cells ++ cell ∷ [] }
@@ -29,9 +31,9 @@ returns-clause-pushed c =
     let inside = c.self.inside in
     let cells = cells_kept inside.spec.kind inside.levels.items inside.values.items in
     let levels : c.push_reserved.new.self.items ≡ inside.levels.items ++ level_of (cell_of c.args.cell) ∷ [] =
-    c.push_reserved.ensures.items ∙ rw (c.in_ok-reserve.ensures.items, c.level_of.ensures) in
+    c.push_reserved.ensures.items ∙ rw (c.put_mark.ensures.levels, c.level_of.ensures) in
     let spec : inside.spec ≡ c.args.self.now.spec = ap (λ (v : Column). v.spec) c.self.view_is in
     let one : IsCellOf inside.spec (cell_of c.args.cell) = rw spec c.requires in
     with_cells inside.spec c.args.self.now cells _ (cell_of c.args.cell) spec (ap (λ (v : Column). v.cells) c.self.view_is)
     (pushed_cells inside.spec cells (cell_of c.args.cell) inside.levels.items _ inside.values.items _ _
-    (ready inside.spec cells inside.levels.items inside.marks.items inside.values.items c.self.invariant) one levels c.in_ok-put_value.ensures.put)
+    (ready inside.spec cells inside.levels.items inside.marks.items inside.values.items c.self.invariant.kept) one levels c.in_ok-put_value.ensures.put)

@@ -13,7 +13,7 @@ loop-i-init c =
     let mark : c.in-Some.mark.now ≡ get_or inside.marks.items (c.args.row / 16) 0 =
     rw (← c.deref.ensures.value) (get_or_read c.deref.result.now (c.args.row / 16) c.in-Some.mark.now (rw c.deref.ensures.value there) c.in-Some.ensures.lookup.1 0) in
     let sixteens : c.args.row / 16 * 16 ≡ 16 * (c.args.row / 16) = omega arith in
-    mark_read inside.spec cells inside.levels.items inside.marks.items inside.values.items (c.args.row / 16) c.in-Some.mark.now c.self.invariant there mark
+    mark_read inside.spec cells inside.levels.items inside.marks.items inside.values.items (c.args.row / 16) c.in-Some.mark.now c.self.invariant.kept there mark
     ∙ ap (start_of inside.spec.kind cells) (sym sixteens)
     ∙ ap (λ (v : Column). start_of v.spec.kind v.cells (c.args.row / 16 * 16)) c.self.view_is
 
@@ -23,12 +23,12 @@ overflow_add-start c =
     let cells = cells_kept inside.spec.kind inside.levels.items inside.values.items in
     let same : length cells ≡ length c.args.self.now.cells = ap (λ (v : Column). length v.cells) c.self.view_is in
     let here : c.loop-i.i < length cells = omega (arith, c.requires) in
-    let in_levels : c.loop-i.i < length inside.levels.items = omega (arith, length-levels inside.spec cells inside.levels.items inside.marks.items inside.values.items c.self.invariant) in
+    let in_levels : c.loop-i.i < length inside.levels.items = omega (arith, length-levels inside.spec cells inside.levels.items inside.marks.items inside.values.items c.self.invariant.kept) in
     let level : c.index.result.now ≡ get_or inside.levels.items c.loop-i.i 0 = get_or_read inside.levels.items c.loop-i.i c.index.result.now in_levels c.index.ensures 0 in
     let start : c.loop-i.start ≡ start_of inside.spec.kind cells c.loop-i.i = c.loop-i.invariant ∙ ap (λ (v : Column). start_of v.spec.kind v.cells c.loop-i.i) (sym c.self.view_is) in
     let size = rw c.as_slice.ensures.value at c.size_at-start.ensures in
     let step = row_step inside.spec cells inside.levels.items inside.marks.items inside.values.items c.loop-i.i c.loop-i.start c.index.result.now c.size_at-start.result
-    c.self.invariant here level start size in
+    c.self.invariant.kept here level start size in
     omega (arith, step.1, ap length c.as_slice.ensures.value, c.as_slice.type_inv.0)
 
 pub loop-i-preserved : goal.loop-i-preserved
@@ -37,12 +37,12 @@ loop-i-preserved c =
     let cells = cells_kept inside.spec.kind inside.levels.items inside.values.items in
     let same : length cells ≡ length c.args.self.now.cells = ap (λ (v : Column). length v.cells) c.self.view_is in
     let here : c.loop-i.i < length cells = omega (arith, c.requires) in
-    let in_levels : c.loop-i.i < length inside.levels.items = omega (arith, length-levels inside.spec cells inside.levels.items inside.marks.items inside.values.items c.self.invariant) in
+    let in_levels : c.loop-i.i < length inside.levels.items = omega (arith, length-levels inside.spec cells inside.levels.items inside.marks.items inside.values.items c.self.invariant.kept) in
     let level : c.index.result.now ≡ get_or inside.levels.items c.loop-i.i 0 = get_or_read inside.levels.items c.loop-i.i c.index.result.now in_levels c.index.ensures 0 in
     let start : c.loop-i.start ≡ start_of inside.spec.kind cells c.loop-i.i = c.loop-i.invariant ∙ ap (λ (v : Column). start_of v.spec.kind v.cells c.loop-i.i) (sym c.self.view_is) in
     let size = rw c.as_slice.ensures.value at c.size_at-start.ensures in
     let step = row_step inside.spec cells inside.levels.items inside.marks.items inside.values.items c.loop-i.i c.loop-i.start c.index.result.now c.size_at-start.result
-    c.self.invariant here level start size in
+    c.self.invariant.kept here level start size in
     step.0 ∙ ap (λ (v : Column). start_of v.spec.kind v.cells (c.loop-i.i + 1)) c.self.view_is
 
 pub returns-in-None : goal.returns-in-None
@@ -50,7 +50,7 @@ returns-in-None c =
     let inside = c.self.inside in
     let cells = cells_kept inside.spec.kind inside.levels.items inside.values.items in
     let marks : length inside.marks.items ≤ c.args.row / 16 = rw (← c.deref.ensures.value) (grind (arith, c.in-None.ensures.lookup.0)) in
-    let past : length cells ≤ c.args.row = omega (arith, marks, c.self.invariant.marks_are.enough) in
+    let past : length cells ≤ c.args.row = omega (arith, marks, c.self.invariant.kept.marks_are.enough) in
     let size : c.len.result ≡ length inside.values.items = omega (arith, inside.values.ok, c.len.ensures) in
-    end_read inside.spec cells inside.levels.items inside.marks.items inside.values.items c.args.row c.len.result c.self.invariant past size
+    end_read inside.spec cells inside.levels.items inside.marks.items inside.values.items c.args.row c.len.result c.self.invariant.kept past size
     ∙ ap (λ (v : Column). start_of v.spec.kind v.cells c.args.row) c.self.view_is

@@ -9,7 +9,7 @@ part-requires c =
     let kind = inside.spec.kind in
     let cells = cells_kept kind inside.levels.items inside.values.items in
     let all : length c.as_slice.result.now ≡ length (values_text c.args.self.now.spec.kind c.args.self.now.cells) =
-    ap length (c.as_slice.ensures.value ∙ c.self.invariant.values_are) ∙ ap (λ (v : Column). length (values_text v.spec.kind v.cells)) c.self.view_is in
+    ap length (c.as_slice.ensures.value ∙ c.self.invariant.kept.values_are) ∙ ap (λ (v : Column). length (values_text v.spec.kind v.cells)) c.self.view_is in
     record {
       order = rw (c.start_of-start.ensures, c.start_of-end.ensures) (start_le c.args.self.now.spec.kind c.args.from c.args.to c.args.self.now.cells c.requires.order);
       inside = rw (c.start_of-end.ensures, all) (end_le c.args.self.now.spec.kind c.args.to c.args.self.now.cells);
@@ -27,5 +27,5 @@ returns c =
     c.start_of-end.ensures ∙ ap (λ (v : Column). length (values_text v.spec.kind (take c.args.to v.cells))) back in
     c.part.ensures
     ∙ ap (λ vs. take (c.start_of-end.result - c.start_of-start.result) (drop c.start_of-start.result vs)) c.as_slice.ensures.value
-    ∙ values_cut kind c.args.from c.args.to c.start_of-start.result c.start_of-end.result cells inside.values.items c.requires.order c.self.invariant.values_are start end
+    ∙ values_cut kind c.args.from c.args.to c.start_of-start.result c.start_of-end.result cells inside.values.items c.requires.order c.self.invariant.kept.values_are start end
     ∙ ap (λ (v : Column). values_text v.spec.kind (rows_between c.args.from c.args.to v.cells)) c.self.view_is
