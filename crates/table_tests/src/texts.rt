@@ -242,7 +242,7 @@ fn generates_the_table_of_a_seed(rt: HostRuntime) -> Result<(), Fail> {
 }
 
 #[test]
-fn writes_cells_and_records(rt: HostRuntime) -> Result<(), Fail> {
+fn writes_cells(rt: HostRuntime) -> Result<(), Fail> {
     let spec = ColumnSpec {
         name: Bytes::new(rt.alloc()),
         kind: ColumnKind::Int64,
@@ -253,10 +253,33 @@ fn writes_cells_and_records(rt: HostRuntime) -> Result<(), Fail> {
     cell_text(&spec, CellRef::Int64(-12), &mut cell)?;
     cell_text(&spec, CellRef::Null, &mut cell)?;
     assert_eq!(rt; cell.as_slice(), b"-12\\N".as_slice());
-    let mut cells = CellTexts::new(rt.alloc());
-    cells.push(Bytes::new(rt.alloc()))?;
-    let mut text = Bytes::new(rt.alloc());
-    row_text(rt.alloc(), &cells, &mut text)?;
-    assert_eq!(rt; text.as_slice(), b"\"\"\n".as_slice());
+    Ok(())
+}
+
+// The cells of a record, and its text.
+const RECORDS: &[(&[&[u8]], &[u8])] = &[
+    (&[b""], b"\"\"\n"),
+    (&[b"a", b"", b"b c"], b"a,,b c\n"),
+    (&[b"", b""], b",\n"),
+    (&[b"a,b", b"c"], b"\"a,b\",c\n"),
+    (&[b"c", b"say \"so\""], b"c,\"say \"\"so\"\"\"\n"),
+    (&[b"a\rb"], b"\"a\rb\"\n"),
+    (&[b"x", b"a\nb", b"y"], b"x,\"a\nb\",y\n"),
+    (&[b"\\", b" ;'"], b"\\, ;'\n"),
+];
+
+#[test]
+fn writes_records_with_quotes_where_needed(rt: HostRuntime) -> Result<(), Fail> {
+    for (fields, record) in RECORDS {
+        let mut cells = CellTexts::new(rt.alloc());
+        for field in *fields {
+            cells.push(Bytes::copy_of(rt.alloc(), *field)?)?;
+        }
+        let mut text = Bytes::new(rt.alloc());
+        if cells.len() > 0 {
+            row_text(rt.alloc(), &cells, &mut text)?;
+        }
+        assert_eq!(rt; text.as_slice(), *record);
+    }
     Ok(())
 }

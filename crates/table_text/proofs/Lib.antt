@@ -4,6 +4,7 @@ pub mod DrawLemmas
 pub mod HeaderBack
 pub mod HeaderLemmas
 pub mod Numerals
+pub mod PlainLemmas
 pub mod RecordLemmas
 pub mod TableBack
 pub mod TableLemmas

@@ -2,6 +2,7 @@ pub mod Cells
 pub mod Generated
 pub mod Headers
 pub mod Numbers
+pub mod PlainRecords
 pub mod ReadingBack
 pub mod Records
 pub mod Tables

@@ -8,6 +8,7 @@ mod from_csv;
 mod generated;
 mod header;
 mod numbers;
+mod plain_records;
 mod reading_back;
 mod records;
 mod refusals;

@@ -9,7 +9,9 @@ ghost use Rattle.plain_pages.specs.Cells.{cell_of};
 ghost use Rattle.plain_pages.specs.Columns.{IsCellOf};
 ghost use Rattle.table_text.specs.Texts as texts;
 
+use crate::plain_records::{are_plain, plain_row};
 use csv::{ByteRecord, WriterBuilder};
+use itoa::Buffer;
 use parquet_types::{ColumnKind, ColumnSpec, FlatSchema};
 use plain_pages::CellRef;
 use pme_base::{Bytes, OutOfMemory, Rows};
@@ -53,9 +55,8 @@ fn push_number(number: i64, into: &mut Bytes) -> Result<(), OutOfMemory>
     ensures written { OnOk result (into.new ≡ into.old ++ signed_decimal number) }
     ensures unchanged { OnErr result (into.new ≡ into.old) }
 {
-    let alloc = allocator_of(into);
-    let text = number.to_string(alloc)?;
-    into.extend(text.as_bytes())
+    let mut buffer = Buffer::new();
+    into.extend(buffer.format(number).as_bytes())
 }
 
 fn push_bytes(
@@ -117,6 +118,9 @@ pub fn row_text(alloc: Global, cells: &CellTexts, into: &mut Bytes) -> Result<()
     ensures written { OnOk result (into.new ≡ into.old ++ record_text default_writer cells.now) }
     ensures unchanged { OnErr result (into.new ≡ into.old) }
 {
+    if are_plain(cells.as_slice()) {
+        return plain_row(cells.as_slice(), into);
+    }
     let record = record_of(alloc, cells)?;
     let text = text_of(alloc, &record)?;
     into.extend(text.as_slice())
@@ -189,19 +193,14 @@ pub fn heading_text(alloc: Global, spec: &ColumnSpec) -> Result<Bytes, OutOfMemo
 {
     let mut heading = Bytes::copy_of(alloc, spec.name.as_slice())?;
     heading.push(b':')?;
-    push_kind(alloc, spec.kind, spec.text, &mut heading)?;
+    push_kind(spec.kind, spec.text, &mut heading)?;
     if spec.optional {
         heading.push(b'?')?;
     }
     Ok(heading)
 }
 
-fn push_kind(
-    alloc: Global,
-    kind: ColumnKind,
-    text: bool,
-    into: &mut Bytes,
-) -> Result<(), OutOfMemory>
+fn push_kind(kind: ColumnKind, text: bool, into: &mut Bytes) -> Result<(), OutOfMemory>
     ensures { OnOk result (into.new ≡ into.old ++ texts.kind_text kind text) }
 {
     match kind {
@@ -218,15 +217,15 @@ fn push_kind(
                 into.extend(b"bytes")
             }
         }
-        ColumnKind::Fixed(size) => push_fixed(alloc, size, into),
+        ColumnKind::Fixed(size) => push_fixed(size, into),
     }
 }
 
-fn push_fixed(alloc: Global, size: u32, into: &mut Bytes) -> Result<(), OutOfMemory>
+fn push_fixed(size: u32, into: &mut Bytes) -> Result<(), OutOfMemory>
     ensures { OnOk result (into.new ≡ into.old ++ (codes "fixed(" ++ decimal size ++ codes ")")) }
 {
-    let digits = size.to_string(alloc)?;
+    let mut buffer = Buffer::new();
     into.extend(b"fixed(")?;
-    into.extend(digits.as_bytes())?;
+    into.extend(buffer.format(size).as_bytes())?;
     into.extend(b")")
 }
