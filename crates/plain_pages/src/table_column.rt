@@ -227,8 +227,9 @@ fn add_mark(place: usize, levels: &mut Vec<u8>, marks: &mut Vec<usize>) -> Resul
     ensures levels { levels.new.items ≡ levels.old.items }
     ensures room { 16 * length marks.new.items ≤ vec_capacity levels.new }
 {
-    levels.reserve(16)?;
-    marks.push(place)?;
+    make_room(16, levels)?;
+    make_room(1, marks)?;
+    marks.push_reserved(place);
     Ok(())
 }
 
@@ -330,25 +331,26 @@ fn put_within(bytes: &[u8], values: &mut Vec<u8>) -> Result<(), OutOfMemory>
     Ok(())
 }
 
-/// Sees to room for so many bytes more.
+/// Sees to room for so many more.
 #[inline(always)]
-fn make_room(more: usize, values: &mut Vec<u8>) -> Result<(), OutOfMemory>
-    ensures room { OnOk result (vec_len values.new + more ≤ vec_capacity values.new) }
-    ensures unchanged { values.new.items ≡ values.old.items }
+fn make_room<T>(more: usize, items: &mut Vec<T>) -> Result<(), OutOfMemory>
+    ensures room { OnOk result (vec_len items.new + more ≤ vec_capacity items.new) }
+    ensures unchanged { items.new.items ≡ items.old.items }
 {
-    if values.capacity() - values.len() < more {
-        grow(more, values)?;
+    if items.capacity() - items.len() < more {
+        grow(more, items)?;
     }
     Ok(())
 }
 
-// Stands apart as `add_mark` does.
+// Stands apart as `add_mark` does. Room grows by a quarter: of many short columns, each would else keep up to twice what
+// it holds.
 #[cold]
 #[inline(never)]
-fn grow(more: usize, values: &mut Vec<u8>) -> Result<(), OutOfMemory>
-    ensures room { OnOk result (vec_len values.new + more ≤ vec_capacity values.new) }
-    ensures unchanged { values.new.items ≡ values.old.items }
+fn grow<T>(more: usize, items: &mut Vec<T>) -> Result<(), OutOfMemory>
+    ensures room { OnOk result (vec_len items.new + more ≤ vec_capacity items.new) }
+    ensures unchanged { items.new.items ≡ items.old.items }
 {
-    values.reserve(more)?;
+    items.reserve_exact(more.max(items.len() / 4))?;
     Ok(())
 }

@@ -11,7 +11,8 @@ use table_text::{
     CellTexts, Choice, TableRefusal, cell_text, generate, header_text, row_text, table_from_csv,
 };
 
-// A text, where `/` stands for a line feed and `~` for the byte 0xff, and behind a space what it is read as.
+// A text, where `/` stands for a line feed, `^` for a carriage return, `~` for the byte 0xff and `{}|` for a byte order
+// mark, and behind a space what it is read as.
 const CASES: &str = r#"
 id:int64,name:text?,secret:bytes/1,ann,00ff/2,\N,/3,,ab/4,"a,b",cd Int64(1);Bytes([97,110,110]);Bytes([0,255]);Int64(2);Null;Bytes([]);Int64(3);Bytes([]);Bytes([171]);Int64(4);Bytes([97,44,98]);Bytes([205]);
 id:int64,name:text?,secret:bytes/1,ann 1,3
@@ -67,6 +68,30 @@ a:fixed(18446744073709551617)/ 0,0
 a:fixed(-1)/ 0,0
 a:bytes,b:bytes/, Bytes([]);Bytes([]);
 a:bytes/AB 1,0
+a:bytes,b:bytes/1f, Bytes([31]);Bytes([]);
+a:bytes,b:bytes/,, 1,2
+a:text/, 1,1
+a:text,b:int64^/x,1^/y,2^/ Bytes([120]);Int64(1);Bytes([121]);Int64(2);
+a:text^x^y Bytes([120]);Bytes([121]);
+^//a:int64/^/^/1//^2^/^/ Int64(1);Int64(2);
+^/^ 0,0
+{}| 0,0
+{}|a:int64/1 Int64(1);
+{}|"a:int64"/1 Int64(1);
+{}|{}|a:int64/1 Int64(1);
+{}a:int64/1 0,0
+a:text/{}|x Bytes([239,187,191,120]);
+a:text/{}|"x" Bytes([239,187,191,34,120,34]);
+"a:text"/x Bytes([120]);
+a:int64,b:text/1,x/2,"y,z"/3,w Int64(1);Bytes([120]);Int64(2);Bytes([121,44,122]);Int64(3);Bytes([119]);
+a:text/x/"y/z"/w Bytes([120]);Bytes([121,10,122]);Bytes([119]);
+a:text/x///"y"^/^/z Bytes([120]);Bytes([121]);Bytes([122]);
+a:text/x/"y/z Bytes([120]);Bytes([121,10,122]);
+a:text/x/"y"z Bytes([120]);Bytes([121,122]);
+a:text/x"y/z Bytes([120,34,121]);Bytes([122]);
+a:int64/1/"2"/x 3,0
+a:int64/1/"2",3/x 2,1
+a:int64/x/"2" 1,0
 a:int32,a:bool/ 0,1
 a:int32,b:int32,a:bool,c:what/ 0,2
 :int32/ 0,0
@@ -111,7 +136,11 @@ fn bytes_of(alloc: Global, case: &str) -> Result<Vec<u8>, AllocError> {
     for byte in case.bytes() {
         let told = match byte {
             b'/' => b'\n',
+            b'^' => b'\r',
             b'~' => 0xff,
+            b'{' => 0xef,
+            b'}' => 0xbb,
+            b'|' => 0xbf,
             other => other,
         };
         if bytes.push(told).is_err() {

@@ -12,7 +12,8 @@ use Rattle.csv.specs.declared.parser.Action.TheVariants as act
 use Rattle.csv.specs.declared.parser.State.{State}
 use Rattle.csv.specs.declared.parser.State.TheVariants as st
 use Rattle.csv.proofs.ReadFacts.{rows-more, rows-end}
-use Rattle.table_text.specs.Records.{AreShort, IsOutside, IsReading, SliceReader, left_of, records_left, table_limit, to_come}
+use Rattle.table_text.specs.Readers.{IsOutside, IsReading, SliceReader, left_of, reader_to_come}
+use Rattle.table_text.specs.Records.{AreShort, records_left, table_limit}
 
 some_same : (x y : Read) → Some x ≡ Some y → x ≡ y
 some_same x y e = cc e
@@ -37,7 +38,7 @@ at_byte s fields field c rest p end e =
     (ap (λ (q : Read). q.0) same, ap (λ (q : Read). q.2) same)
 
 -- a byte that ends none
-past_byte : (s : State) (fields : List (List ℕ)) (field : List ℕ) (c : ℕ) (rest : List ℕ) → is_end (step default_config s c).1 ≡ false
+pub past_byte : (s : State) (fields : List (List ℕ)) (field : List ℕ) (c : ℕ) (rest : List ℕ) → is_end (step default_config s c).1 ≡ false
     → next_record default_config s fields field (c ∷ rest)
     ≡ next_record default_config (step default_config s c).0 (fields_after (step default_config s c).1 fields field) (field_after (step default_config s c).1 c field) rest
 unfolding next_record
@@ -111,7 +112,7 @@ after_small act.Copy n c fields field k h small = (h, simp length-append (omega 
 after_small act.EndField n c fields field k h small = (one_more n fields field h (omega arith), omega arith)
 after_small act.EndRecord n c fields field k h small = (one_more n fields field h (omega arith), omega arith)
 
-at_most : (xs : List ℕ) (n : ℕ) (s : State) (fields : List (List ℕ)) (field : List ℕ) (p : Read) → next_record default_config s fields field xs ≡ Some p
+pub at_most : (xs : List ℕ) (n : ℕ) (s : State) (fields : List (List ℕ)) (field : List ℕ) (p : Read) → next_record default_config s fields field xs ≡ Some p
     → AreAtMost n fields → length field + length xs ≤ n → AreAtMost n p.0
 at_most [] n s fields field p e h small = rw ((at_end s fields field p e).0) (one_more n fields field h (omega arith))
 at_most (c ∷ rest) n s fields field p e h small =
@@ -123,7 +124,7 @@ at_most (c ∷ rest) n s fields field p e h small =
 
 -- a read that found a record
 pub record Took (old new : SliceReader) (fields : List (List ℕ)) : Type 0 where
-  pub next : to_come old ≡ fields ∷ to_come new
+  pub next : reader_to_come old ≡ fields ∷ reader_to_come new
   pub reading : IsReading new
   pub short : AreShort fields
 
@@ -133,11 +134,11 @@ less_left s (c ∷ rest) p e = let less = shorter rest c s [] [] p e in omega ar
 
 took_at : (old new : SliceReader) (fields : List (List ℕ)) (p : Read) (left rest : List ℕ) → left_of old ≡ Some left → length left ≤ table_limit
     → next_record default_config old.state [] [] left ≡ Some p → fields ≡ p.0 → p.1 ≡ new.state → p.2 ≡ rest → left_of new ≡ Some rest
-    → (to_come old ≡ fields ∷ to_come new) × (length rest ≤ table_limit) × AreShort fields
+    → (reader_to_come old ≡ fields ∷ reader_to_come new) × (length rest ≤ table_limit) × AreShort fields
 took_at old new fields p left rest known small at fields_are state_is rest_is known_rest =
     let whole = ap (records_left old.state) known in
     let next = next_left old.state left p at in
-    let same : p.0 ∷ records_left p.1 (Some p.2) ≡ fields ∷ to_come new = rw (fields_are, state_is, rest_is, known_rest) refl in
+    let same : p.0 ∷ records_left p.1 (Some p.2) ≡ fields ∷ reader_to_come new = rw (fields_are, state_is, rest_is, known_rest) refl in
     let less = less_left old.state left p at in
     (whole ∙ next ∙ same, rw (← rest_is) (omega arith), rw fields_are (at_most left table_limit old.state [] [] p at tt (omega arith)))
 
@@ -152,7 +153,7 @@ took old new fields h ready lengths r =
       short = t.2;
     }
 
-pub ended : (old new : SliceReader) (fields : List (List ℕ)) → IsReading old → ReadRecord (λ s. Some s.now) old new false fields → to_come old ≡ []
+pub ended : (old new : SliceReader) (fields : List (List ℕ)) → IsReading old → ReadRecord (λ s. Some s.now) old new false fields → reader_to_come old ≡ []
 ended old new fields h r = rw h.left_is (end_left old.state h.left (rows-end (λ (s : Bor (List ℕ)). Some s.now) old new fields default_config h.left h.config h.left_is r))
 
 -- why a read of a slice fails

@@ -1,10 +1,13 @@
 pub mod Cells
 pub mod Generated
 pub mod Headers
+pub mod Lines
 pub mod Numbers
 pub mod PlainRecords
 pub mod ReadingBack
+pub mod Readers
 pub mod Records
 pub mod Tables
+pub mod TextRecords
 pub mod Texts
 pub mod Types

@@ -3,12 +3,13 @@ ghost use Rattle.std.specs.Prelude.{◌≡◌, ◌≤◌, length, Ok, OnOk, IfOk
 ghost use Rattle.csv.specs.Records.{fields_of};
 ghost use Rattle.table_text.specs.Records as records;
 ghost use Rattle.table_text.specs.Tables as tables;
+ghost use Rattle.table_text.specs.TextRecords as reading;
 
 use crate::fields::push_field;
 use crate::header::read_header;
-use crate::records::{field_of, open, read_next};
+use crate::records::{TextRecords, field_of, open, read_next};
 use crate::refusals::{FieldRefusal, RecordRefusal};
-use csv::{ByteRecord, Reader};
+use csv::ByteRecord;
 use plain_pages::{Table, TableColumn};
 use std::alloc::Global;
 
@@ -30,9 +31,9 @@ pub fn table_from_csv(alloc: Global, bytes: &[u8]) -> Result<Table, TableRefusal
     ensures ok { IfOk result (λ table. tables.table bytes.now ≡ Ok table) }
     ensures err { IfErr result (λ e. tables.IsRefusalOf (tables.table bytes.now) e) }
 {
-    let mut reader = open(alloc, bytes);
+    let mut records = open(alloc, bytes);
     let mut record = ByteRecord::new(alloc);
-    let Ok(found) = read_next(&mut reader, &mut record) else {
+    let Ok(found) = read_next(alloc, &mut records, &mut record) else {
         return Err(TableRefusal::OutOfMemory);
     };
     if !found {
@@ -42,8 +43,7 @@ pub fn table_from_csv(alloc: Global, bytes: &[u8]) -> Result<Table, TableRefusal
         Ok(columns) => columns,
         Err(error) => return Err(in_record(error, 0)),
     };
-    let mut room = Vec::new(alloc);
-    if let Err(error) = read_rows(&mut reader, &mut record, &mut columns, &mut room) {
+    if let Err(error) = read_rows(alloc, &mut records, &mut record, &mut columns) {
         return Err(error);
     }
     Ok(Table::from_columns(columns))
@@ -52,23 +52,24 @@ pub fn table_from_csv(alloc: Global, bytes: &[u8]) -> Result<Table, TableRefusal
 /// Adds all records that are left, the first of which has the number 1.
 #[tactic(auto, using(crate::proofs::TableLemmas::rows_step, crate::proofs::TableLemmas::rows_refused))]
 fn read_rows(
-    reader: &mut Reader<&[u8]>,
+    alloc: Global,
+    records: &mut TextRecords<'_>,
     record: &mut ByteRecord,
     columns: &mut Vec<TableColumn>,
-    room: &mut Vec<u8>,
 ) -> Result<(), TableRefusal>
-    requires { records.IsReading reader.old }
-    ensures ok { OnOk result (tables.rows_added 1 columns.old.items (records.to_come reader.old) ≡ Ok columns.new.items) }
-    ensures err { IfErr result (λ e. tables.IsRefusalOf (tables.rows_added 1 columns.old.items (records.to_come reader.old)) e) }
+    requires { reading.AreRead records.old }
+    ensures ok { OnOk result (tables.rows_added 1 columns.old.items (reading.to_come records.old) ≡ Ok columns.new.items) }
+    ensures err { IfErr result (λ e. tables.IsRefusalOf (tables.rows_added 1 columns.old.items (reading.to_come records.old)) e) }
 {
+    let mut room = Vec::new(alloc);
     for entry in 1..u64::MAX {
-        let Ok(found) = read_next(reader, record) else {
+        let Ok(found) = read_next(alloc, records, record) else {
             return Err(TableRefusal::OutOfMemory);
         };
         if !found {
             return Ok(());
         }
-        if let Err(error) = read_row(columns, record, entry, room) {
+        if let Err(error) = read_row(columns, record, entry, &mut room) {
             return Err(error);
         }
     }

@@ -1,7 +1,7 @@
 use Rattle.std.proofs.Common.{inl}
 use Rattle.csv.specs.Records.{fields_of}
 use Rattle.table_text.proofs.RecordLemmas.{took, ended, outside}
-use Rattle.table_text.proofs.records.read_next.Goals as goal
+use Rattle.table_text.proofs.reader.read_record.Goals as goal
 
 pub returns-in-Ok-clause-found : goal.returns-in-Ok-clause-found
 returns-in-Ok-clause-found c found = (took c.args.reader.now c.read_byte_record.new.self (fields_of c.read_byte_record.new.row) c.requires (inl (c.in-Ok.ensures.ready c.requires.trim)) c.in-Ok.ensures.flexible (rw found at (c.in-Ok.ensures.reads c.requires.trim c.requires.ready))).next

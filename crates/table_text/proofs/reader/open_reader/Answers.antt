@@ -2,7 +2,7 @@ use Rattle.std.proofs.Common.{inr, ◌∙◌, refl}
 use Rattle.csv.specs.Reading.{strip_bom}
 use Rattle.table_text.specs.Records.{records_left, records_of}
 use Rattle.table_text.proofs.RecordLemmas.{stripped}
-use Rattle.table_text.proofs.records.open.Goals as goal
+use Rattle.table_text.proofs.reader.open_reader.Goals as goal
 
 pub returns-clause-reading : goal.returns-clause-reading
 returns-clause-reading c =

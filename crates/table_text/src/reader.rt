@@ -1,0 +1,50 @@
+// Records by the kit's reader, which reads any text.
+ghost use Rattle.std.specs.Prelude.{◌≡◌, ◌≤◌, ◌∷◌, Some, [], length, true, false, IfOk};
+ghost use Rattle.csv.specs.Records.{fields_of};
+ghost use Rattle.table_text.specs.Readers as readers;
+ghost use Rattle.table_text.specs.Records as records;
+
+use csv::{ByteRecord, ErrorKind, Reader, ReaderBuilder};
+use pme_base::OutOfMemory;
+use std::alloc::Global;
+
+/// A reader of the records of a text. A byte order mark at its front is passed over.
+pub fn open_reader<'a>(alloc: Global, text: &'a [u8]) -> Reader<&'a [u8]>
+    requires { length text.now ≤ 268435456 }
+    ensures reading { readers.IsReading result }
+    ensures all { readers.reader_to_come result ≡ records.records_of text.now }
+{
+    ReaderBuilder::new()
+        .has_headers(false)
+        .flexible(true)
+        .from_reader(alloc, text)
+}
+
+/// Reads the next record, if there is one.
+pub fn read_record(reader: &mut Reader<&[u8]>, record: &mut ByteRecord) -> Result<bool, OutOfMemory>
+    requires { readers.IsReading reader.old }
+    ensures found { IfOk result (λ found. found ≡ true → readers.reader_to_come reader.old ≡ fields_of record.new ∷ readers.reader_to_come reader.new) }
+    ensures end { IfOk result (λ found. found ≡ false → readers.reader_to_come reader.old ≡ []) }
+    ensures reading { IfOk result (λ found. found ≡ true → readers.IsReading reader.new) }
+    ensures short { IfOk result (λ found. found ≡ true → records.AreShort (fields_of record.new)) }
+{
+    match reader.read_byte_record(record) {
+        Ok(found) => Ok(found),
+        Err(error) => Err(cause_of(error.kind())),
+    }
+}
+
+/// A read from memory fails for want of memory alone. The contract of `csv` leaves room for a reader underneath that
+/// fails, which is told as the same; records of other lengths are no failure.
+fn cause_of(kind: &ErrorKind) -> OutOfMemory
+    requires { readers.IsOutside kind.now }
+{
+    match kind {
+        ErrorKind::Io(_) => OutOfMemory,
+        ErrorKind::OutOfMemory => OutOfMemory,
+        ErrorKind::Utf8 { .. } => unreachable!(),
+        ErrorKind::UnequalLengths { .. } => unreachable!(),
+        ErrorKind::Serialize(_) => unreachable!(),
+        ErrorKind::Deserialize { .. } => unreachable!(),
+    }
+}
