@@ -113,6 +113,8 @@ fn read(rt: &HostRuntime, text: &[u8]) -> Result<()> {
     let end = rt.thread_cpu_time()?;
     let took = end.saturating_sub(start).as_nanos();
     println!(rt; "{took} {} {} {}", text.len(), table.columns(), table.rows())?;
+    let status = fs::read_to_string(rt, "/proc/self/status")?;
+    println!(rt; "{}", status.as_str())?;
     Ok(())
 }
 
@@ -190,13 +192,11 @@ RT
 (cd "$program" && rt run > "$work/ours.txt" 2> "$work/rt.log") || { cat "$work/ours.txt" "$work/rt.log" | tail -n 40; exit 1; }
 cd "$work"
 python3 - "$program/out/tables_bench" "$records/out/records_bench" <<'PY'
-import os, subprocess, sys
+import os, re, subprocess, sys
 def run(program):
-    child = subprocess.Popen([program], stdout=subprocess.PIPE)
-    words = child.stdout.read().split()
-    _, status, usage = os.wait4(child.pid, 0)
-    assert status == 0
-    return [int(word) for word in words], usage.ru_maxrss * 1024
+    first, _, status = subprocess.run([program], check=True, capture_output=True, text=True).stdout.partition("\n")
+    held = re.search(r"VmHWM:\s+(\d+) kB", status)
+    return [int(word) for word in first.split()], int(held[1]) * 1024 if held else 0
 def times(program, generated, count):
     best, memory = None, 0
     for _ in range(count):
@@ -214,9 +214,8 @@ def reading(name):
     assert fields == columns * (rows + 1)
     print(f"read {name}: {size * 1000 / took:.0f} MB/s (records alone {size * 1000 / alone:.0f}), {memory / size:.1f} times its bytes of memory, {rows} rows of {columns} columns", flush=True)
 reading("generated rows")
-# written in pieces: what this script holds when it starts the program would count as the program's memory
 def text(name, header, row, count):
-    with open("table.csv", "w") as out:
+    with open("table.csv", "w", newline="") as out:
         out.write(header + "\n")
         for _ in range(100):
             out.write((row + "\n") * (count // 100))
@@ -227,6 +226,8 @@ text("numbers of one digit", "a:int64", "7", 10_000_000)
 text("numbers of two digits", "a:int64", "77", 10_000_000)
 text("numbers of five digits", "a:int64", "12345", 5_000_000)
 text("one short text", "a:text", "x", 10_000_000)
+text("one short text, lines with both ends", "a:text", "x\r", 10_000_000)
+text("one short text under a quoted header", '"a:text"', "x", 10_000_000)
 text("two short texts", "a:text,b:text", "x,y", 5_000_000)
 text("short texts", "a:text,b:text,c:text,d:text", "a,b,c,d", 4_000_000)
 text("truths and nulls", "a:bool,b:bool?", "true,\\N", 4_000_000)
@@ -238,13 +239,17 @@ text("hex of one byte", "a:bytes", "ab", 10_000_000)
 text("hex of one byte, by its size", "a:fixed(1)", "ab", 10_000_000)
 text("floats", "a:float", "0000803f", 4_000_000)
 text("three empty texts", "a:text,b:text,c:text", ",,", 10_000_000)
+text("two empty texts under a quoted header", '"a:text",b:text', ",", 10_000_000)
 text("empty texts in quotes", "a:text", '""', 10_000_000)
+many = 32_768
+text("many columns of one digit", ",".join(f"{n}:int64" for n in range(many)), ",".join("7" * many), 300)
+text("many columns of truths", ",".join(f"{n}:bool" for n in range(many)), ",".join(["true"] * many), 100)
 def header(name, count):
     with open("table.csv", "w") as out:
         for n in range(count - 1):
             out.write(f"{n}:bool,")
         out.write("a:bool\n")
     reading(name)
-header("a header of all columns that a file may have", 32_768)
+header("a header of all columns that a file may have", many)
 header("a header of a million columns", 1_000_000)
 PY
