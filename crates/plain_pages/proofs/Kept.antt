@@ -12,7 +12,7 @@ use Rattle.parquet_types.specs.declared.column.ColumnKind.TheVariants.{Boolean, 
 use Rattle.parquet_types.specs.declared.column.ColumnSpec.{ColumnSpec}
 use Rattle.plain_pages.specs.Cells.{Cell, null, bool, int32, int64, bytes}
 use Rattle.plain_pages.specs.Plain.{value_of, value_size}
-use Rattle.plain_pages.specs.Columns.{IsValueOf, IsCellOf, AreCellsOf, text_of, values_text, level_of, levels_of, value_kept, cells_kept, start_of, AreMarks, marked, Keeps}
+use Rattle.plain_pages.specs.Columns.{IsValueOf, IsCellOf, AreCellsOf, text_of, values_text, level_of, levels_of, value_kept, cells_kept, start_of, AreMarks, marked, IsKept, Keeps}
 
 le_true : (m n : ℕ) → m ≤ n → nat_le m n ≡ true
 le_true m n h = grind arith
@@ -185,3 +185,20 @@ pub pushed_keeps : (spec : ColumnSpec) (cells : List Cell) (cell : Cell) (levels
     → Keeps spec (cells_kept spec.kind levels' values') levels' marks values'
 pushed_keeps spec cells cell levels marks values levels' values' r one e g =
     rw (pushed_cells spec cells cell levels marks values levels' values' r one e g) (keeps_push spec cells cell levels marks values levels' values' r one e g)
+
+-- what is kept of the levels
+pub kept_levels : (spec : ColumnSpec) (cells : List Cell) (count : ℕ) (levels marks values : List ℕ) (room : ℕ) → IsKept spec cells count levels marks values room
+    → spec.optional ≡ true → levels ≡ levels_of cells
+kept_levels spec cells count levels marks values room k optional = rw optional at k.kept.levels_are
+
+pub kept_length : (spec : ColumnSpec) (cells : List Cell) (count : ℕ) (levels marks values : List ℕ) (room : ℕ) → IsKept spec cells count levels marks values room
+    → spec.optional ≡ true → length levels ≡ count
+kept_length spec cells count levels marks values room k optional =
+    ap length (kept_levels spec cells count levels marks values room k optional) ∙ length-map cells level_of ∙ sym k.counted
+
+pub level_one : (spec : ColumnSpec) (cell : Cell) → IsCellOf spec cell → spec.optional ≡ false → level_of cell ≡ 1
+level_one spec null h e = cc (sym h ∙ e)
+level_one spec (bool b) h e = refl
+level_one spec (int32 n) h e = refl
+level_one spec (int64 n) h e = refl
+level_one spec (bytes xs) h e = refl

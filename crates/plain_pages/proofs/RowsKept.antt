@@ -1,11 +1,12 @@
 -- The levels and the bytes of some rows of a column.
-use Rattle.std.proofs.Common.{◌≡◌, ◌≢◌, ℕ, zero, suc, ◌+◌, ◌*◌, ◌-◌, ◌<◌, ◌≤◌, List, [], ◌∷◌, ◌++◌, take, drop, length, get_or, refl, sym, ap, ◌∙◌, arith, append_assoc, length-append, length-take}
+use Rattle.std.proofs.Common.{inl, inr, ◌≡◌, ◌≢◌, true, ℕ, zero, suc, ◌+◌, ◌*◌, ◌-◌, ◌<◌, ◌≤◌, List, [], ◌∷◌, ◌++◌, take, drop, length, get_or, refl, sym, ap, ◌∙◌, arith, append_assoc, length-append, length-take}
 use Rattle.std.proofs.Math.Seq.{take-add, take-suc}
+use Rattle.std.proofs.lemmas.Bool.{cases_Bool}
 use Rattle.std.proofs.lemmas.List.{take_at, drop_at, take-append-drop, take_all, take-map, drop-map}
 use Rattle.parquet_types.specs.declared.column.ColumnKind.{ColumnKind}
 use Rattle.parquet_types.specs.declared.column.ColumnSpec.{ColumnSpec}
 use Rattle.plain_pages.specs.Cells.{Cell, null, bool, int32, int64, bytes}
-use Rattle.plain_pages.specs.Columns.{text_of, values_text, level_of, levels_of, rows_between, size_kept, value_kept, start_of, IsValueOf, IsCellOf, AreCellsOf, Keeps}
+use Rattle.plain_pages.specs.Columns.{text_of, values_text, level_of, levels_of, rows_between, size_kept, value_kept, start_of, IsValueOf, IsCellOf, AreCellsOf, Keeps, page_of}
 use Rattle.plain_pages.proofs.Kept.{reads_as, read_kept, values_text-append, values_text-push}
 
 take_between : (from to : ℕ) (cells : List Cell) → from ≤ to → take to cells ≡ take from cells ++ rows_between from to cells
@@ -162,3 +163,11 @@ all_rows spec from to cells h = all_take spec (to - from) (drop from cells) (all
 
 pub few_rows : (from to : ℕ) (cells : List Cell) → length (rows_between from to cells) ≤ to - from
 few_rows from to cells = omega (arith, length-take (to - from) (drop from cells))
+
+-- levels of a column that isn't OPTIONAL are not written
+pub page_same : (spec : ColumnSpec) (levels all values : List ℕ) → (spec.optional ≡ true → levels ≡ all) → page_of spec levels values ≡ page_of spec all values
+unfolding page_of
+page_same spec levels all values same = elim (cases_Bool spec.optional) [
+  | inl optional ↦ rw (optional, same optional) refl
+  | inr required ↦ rw required refl
+]

@@ -1,5 +1,5 @@
 -- Columns of a table, the bytes that they keep, and the pages that are written of them.
-use Rattle.std.specs.Prelude.{◌≡◌, ℕ, zero, suc, ◌+◌, ◌-◌, ◌*◌, ◌/◌, ◌<◌, ◌≤◌, ◌==◌, true, false, if◌then◌else◌, List, [], ◌∷◌, ◌++◌, take, drop, map, length, slice_get, slice_index, FitsSigned, Option, option_and_then, Ok}
+use Rattle.std.specs.Prelude.{◌≡◌, ℕ, zero, suc, ◌+◌, ◌-◌, ◌*◌, ◌/◌, ◌<◌, ◌≤◌, ◌==◌, Bool, true, false, if◌then◌else◌, List, [], ◌∷◌, ◌++◌, take, drop, map, replicate, length, slice_get, slice_index, FitsSigned, Option, option_and_then, Ok}
 use Rattle.std.specs.Int.{w32, w64, to_le_bytes, cast_unsigned}
 use Rattle.parquet_types.specs.declared.column.ColumnKind.{ColumnKind}
 use Rattle.parquet_types.specs.declared.column.ColumnKind.TheVariants.{Boolean, Int32, Int64, Int96, Float, Double, ByteArray, Fixed}
@@ -96,10 +96,15 @@ pub record Keeps (spec : ColumnSpec) (cells : List Cell) (levels marks values : 
   pub values_are : values ≡ values_text spec.kind cells
   pub marks_are : AreMarks spec.kind cells marks
 
+-- the levels of so many cells: kept where a column is OPTIONAL, and else all 1
+abbrev pub levels_in : Bool → ℕ → List ℕ → List ℕ
+levels_in optional count kept = if optional then kept else replicate count 1
+
 -- the same, with room for the levels of all cells before the next mark
-pub record IsKept (spec : ColumnSpec) (cells : List Cell) (levels marks values : List ℕ) (room : ℕ) : Type 0 where
-  pub kept : Keeps spec cells levels marks values
-  pub roomy : 16 * length marks ≤ room
+pub record IsKept (spec : ColumnSpec) (cells : List Cell) (count : ℕ) (levels marks values : List ℕ) (room : ℕ) : Type 0 where
+  pub counted : count ≡ length cells
+  pub kept : Keeps spec cells (levels_in spec.optional count levels) marks values
+  pub roomy : spec.optional ≡ true → 16 * length marks ≤ room
 
 -- ---- tables
 -- the rows of the first column

@@ -1,4 +1,4 @@
-ghost use Rattle.std.specs.Prelude.{◌≡◌, ◌+◌, ◌<◌, ◌≤◌, ◌-◌, ◌∷◌, ◌++◌, [], length, take, drop, slice_get, Some, OnOk, OnErr};
+ghost use Rattle.std.specs.Prelude.{◌≡◌, ◌+◌, ◌<◌, ◌≤◌, ◌-◌, ◌∷◌, ◌++◌, [], true, false, length, take, drop, slice_get, Some, OnOk, OnErr};
 ghost use Rattle.std.specs.Prelude.{slice_index, ◌%◌, ◌*◌, IsOk, vec_len, vec_capacity};
 ghost use Rattle.std.specs.Int.{w32, to_le_bytes};
 ghost use Rattle.plain_pages.specs.Cells.{cell_of, bytes as bytes_cell};
@@ -14,11 +14,13 @@ use pme_base::{Bytes, OutOfMemory};
 use std::alloc::Global;
 use std::marker::Model;
 
-/// A column of a table. Beside the bytes of its values it keeps a byte and a half for each cell.
+/// A column of a table. Beside the bytes of its values it keeps half a byte for each cell, and one more where it is
+/// OPTIONAL.
 #[derive(Debug, Drop)]
 pub struct TableColumn {
     spec: ColumnSpec,
-    // 0 for a null and 1 for a value, as a page's levels are.
+    count: usize,
+    // Of an OPTIONAL column, 0 for a null and 1 for a value, as a page's levels are; of any other, nothing.
     levels: Vec<u8>,
     // Where the bytes of each sixteenth cell begin.
     marks: Vec<usize>,
@@ -28,13 +30,13 @@ pub struct TableColumn {
 
 impl Model for TableColumn {
     ghost use Rattle.std.specs.Prelude.{vec_capacity};
-    ghost use Rattle.plain_pages.specs.Columns.{Column, IsKept, cells_kept};
+    ghost use Rattle.plain_pages.specs.Columns.{Column, IsKept, cells_kept, levels_in};
 
     ghost Value = { Column };
 
-    ghost view = { λ c. record { spec = c.spec; cells = cells_kept c.spec.kind c.levels.items c.values.items } };
+    ghost view = { λ c. record { spec = c.spec; cells = cells_kept c.spec.kind (levels_in c.spec.optional c.count c.levels.items) c.values.items } };
 
-    ghost invariant = { λ c. IsKept c.spec (cells_kept c.spec.kind c.levels.items c.values.items) c.levels.items c.marks.items c.values.items (vec_capacity c.levels) };
+    ghost invariant = { λ c. IsKept c.spec (cells_kept c.spec.kind (levels_in c.spec.optional c.count c.levels.items) c.values.items) c.count c.levels.items c.marks.items c.values.items (vec_capacity c.levels) };
 }
 
 impl TableColumn {
@@ -44,6 +46,7 @@ impl TableColumn {
     {
         TableColumn {
             spec,
+            count: 0,
             levels: Vec::new(alloc),
             marks: Vec::new(alloc),
             values: Vec::new(alloc),
@@ -54,7 +57,7 @@ impl TableColumn {
     pub fn len(&self) -> usize
         ensures { result ≡ length self.now.cells }
     {
-        self.levels.len()
+        self.count
     }
 
     /// What the column is.
@@ -73,9 +76,21 @@ impl TableColumn {
         ensures pushed { OnOk result (self.new ≡ record self.old { cells = self.old.cells ++ cell_of cell.entry ∷ [] }) }
         ensures unchanged { OnErr result (self.new ≡ self.old) }
     {
-        put_mark(self.values.len(), &mut self.levels, &mut self.marks)?;
+        put_mark(
+            self.spec.optional,
+            self.count,
+            self.values.len(),
+            &mut self.levels,
+            &mut self.marks,
+        )?;
         put_value(&self.spec, cell, &mut self.values)?;
-        self.levels.push_reserved(level_of(cell));
+        put_level(
+            self.spec.optional,
+            self.count,
+            level_of(cell),
+            &mut self.levels,
+        );
+        self.count += 1;
         Ok(())
     }
 
@@ -85,7 +100,8 @@ impl TableColumn {
         ensures cell { slice_get self.now.cells row ≡ Some (cell_of result) }
         ensures of_spec { columns.IsCellOf self.now.spec (cell_of result) }
     {
-        if self.levels[row] == 0 {
+        let level = level_at(self.spec.optional, self.count, &self.levels, row);
+        if level == 0 {
             return CellRef::Null;
         }
         value_at(self.spec.kind, self.start_of(row), self.values.as_slice())
@@ -131,12 +147,19 @@ impl TableColumn {
         )
     }
 
+    /// The levels of some rows of an OPTIONAL column; of any other, none.
     fn levels_between(&self, from: usize, to: usize) -> &[u8]
         requires order { from ≤ to }
         requires inside { to ≤ length self.now.cells }
-        ensures { result.now ≡ columns.levels_of (columns.rows_between from to self.now.cells) }
+        ensures levels { self.now.spec.optional ≡ true → result.now ≡ columns.levels_of (columns.rows_between from to self.now.cells) }
+        ensures few { length result.now ≤ to - from }
     {
-        part(self.levels.as_slice(), from, to)
+        let levels = self.levels.as_slice();
+        if self.spec.optional {
+            part(levels, from, to)
+        } else {
+            part(levels, 0, 0)
+        }
     }
 
     fn values_between(&self, from: usize, to: usize) -> &[u8]
@@ -159,12 +182,8 @@ impl TableColumn {
             None => return self.values.len(),
         };
         for i in row / 16 * 16..row {
-            start += size_at(
-                self.spec.kind,
-                self.levels[i],
-                start,
-                self.values.as_slice(),
-            );
+            let level = level_at(self.spec.optional, self.count, &self.levels, i);
+            start += size_at(self.spec.kind, level, start, self.values.as_slice());
         }
         start
     }
@@ -201,17 +220,25 @@ fn part(bytes: &[u8], start: usize, end: usize) -> &[u8]
     &bytes[start..end]
 }
 
-/// Marks the place of the next cell where a mark is due, and then sees to room for the levels up to the mark behind it.
+/// Marks the place of the next cell where a mark is due, and then sees to room for the levels up to the mark behind it,
+/// where levels are kept.
 #[inline(always)]
-fn put_mark(place: usize, levels: &mut Vec<u8>, marks: &mut Vec<usize>) -> Result<(), OutOfMemory>
-    requires { 16 * length marks.old.items ≤ vec_capacity levels.old }
-    ensures marked { OnOk result (marks.new.items ≡ columns.marked (length levels.old.items) place marks.old.items) }
+fn put_mark(
+    optional: bool,
+    count: usize,
+    place: usize,
+    levels: &mut Vec<u8>,
+    marks: &mut Vec<usize>,
+) -> Result<(), OutOfMemory>
+    requires counted { optional ≡ true → length levels.old.items ≡ count }
+    requires room { optional ≡ true → 16 * length marks.old.items ≤ vec_capacity levels.old }
+    ensures marked { OnOk result (marks.new.items ≡ columns.marked count place marks.old.items) }
     ensures unchanged { OnErr result (marks.new.items ≡ marks.old.items) }
     ensures levels { levels.new.items ≡ levels.old.items }
-    ensures room { 16 * length marks.new.items ≤ vec_capacity levels.new }
+    ensures room { optional ≡ true → 16 * length marks.new.items ≤ vec_capacity levels.new }
 {
-    if levels.len() / 16 == marks.len() {
-        add_mark(place, levels, marks)?;
+    if count / 16 == marks.len() {
+        add_mark(optional, place, levels, marks)?;
     }
     Ok(())
 }
@@ -219,18 +246,48 @@ fn put_mark(place: usize, levels: &mut Vec<u8>, marks: &mut Vec<usize>) -> Resul
 // Of sixteen cells one comes here: it stands apart, so that what adds the others stays short.
 #[cold]
 #[inline(never)]
-fn add_mark(place: usize, levels: &mut Vec<u8>, marks: &mut Vec<usize>) -> Result<(), OutOfMemory>
-    requires room { 16 * length marks.old.items ≤ vec_capacity levels.old }
-    requires due { 16 * length marks.old.items ≤ length levels.old.items }
+fn add_mark(
+    optional: bool,
+    place: usize,
+    levels: &mut Vec<u8>,
+    marks: &mut Vec<usize>,
+) -> Result<(), OutOfMemory>
+    requires room { optional ≡ true → 16 * length marks.old.items ≤ vec_capacity levels.old }
+    requires due { optional ≡ true → 16 * length marks.old.items ≤ length levels.old.items }
     ensures marked { OnOk result (marks.new.items ≡ marks.old.items ++ place ∷ []) }
     ensures unchanged { OnErr result (marks.new.items ≡ marks.old.items) }
     ensures levels { levels.new.items ≡ levels.old.items }
-    ensures room { 16 * length marks.new.items ≤ vec_capacity levels.new }
+    ensures room { optional ≡ true → 16 * length marks.new.items ≤ vec_capacity levels.new }
 {
-    make_room(16, levels)?;
+    if optional {
+        make_room(16, levels)?;
+    }
     make_room(1, marks)?;
     marks.push_reserved(place);
     Ok(())
+}
+
+/// Adds the level of a cell behind so many.
+#[inline(always)]
+fn put_level(optional: bool, count: usize, level: u8, levels: &mut Vec<u8>)
+    requires counted { optional ≡ true → length levels.old.items ≡ count }
+    requires room { optional ≡ true → vec_len levels.old < vec_capacity levels.old }
+    requires required { optional ≡ false → level ≡ 1 }
+    ensures levels { columns.levels_in optional (count + 1) levels.new.items ≡ columns.levels_in optional count levels.old.items ++ level ∷ [] }
+    ensures capacity { vec_capacity levels.new ≡ vec_capacity levels.old }
+{
+    if optional {
+        levels.push_reserved(level);
+    }
+}
+
+/// The level of a row, of so many cells.
+fn level_at(optional: bool, count: usize, levels: &Vec<u8>, row: usize) -> u8
+    requires counted { optional ≡ true → length levels.now.items ≡ count }
+    requires inside { row < count }
+    ensures { result ≡ slice_index (columns.levels_in optional count levels.now.items) row }
+{
+    if optional { levels[row] } else { 1 }
 }
 
 /// 0 for a null and 1 for a value.
