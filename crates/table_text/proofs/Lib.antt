@@ -3,9 +3,9 @@ pub mod CellLemmas
 pub mod DrawLemmas
 pub mod HeaderBack
 pub mod HeaderLemmas
-pub mod LineLemmas
 pub mod Numerals
 pub mod PlainLemmas
 pub mod RecordLemmas
+pub mod SplitLemmas
 pub mod TableBack
 pub mod TableLemmas

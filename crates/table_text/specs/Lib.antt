@@ -1,13 +1,11 @@
 pub mod Cells
 pub mod Generated
 pub mod Headers
-pub mod Lines
 pub mod Numbers
 pub mod PlainRecords
 pub mod ReadingBack
-pub mod Readers
 pub mod Records
+pub mod Splitting
 pub mod Tables
-pub mod TextRecords
 pub mod Texts
 pub mod Types

@@ -1,9 +1,10 @@
 -- The records of a text, by the state machine of `csv` without headers.
-use Rattle.std.specs.Prelude.{ℕ, ◌+◌, ◌≤◌, List, [], length, Option, Some, None}
+use Rattle.std.specs.Prelude.{ℕ, ◌+◌, ◌≤◌, List, [], drop, length, Option, Some, None}
 use Rattle.std.specs.List.{AllByRecursion}
 use Rattle.csv.specs.Reading.{default_config, records, records_from, strip_bom}
 use Rattle.csv.specs.declared.parser.State.{State}
 use Rattle.csv.specs.declared.parser.State.TheVariants as st
+use Rattle.table_text.specs.declared.records.TextRecords.{TextRecords}
 
 -- the records of a text, without a byte order mark at its front; lines without a byte are none
 unfoldable pub records_of : List ℕ → List (List (List ℕ))
@@ -25,3 +26,11 @@ table_limit = 268435456
 -- no field is longer than a table's text may be
 abbrev pub AreShort : List (List ℕ) → Type 0
 AreShort fields = AllByRecursion (λ (field : List ℕ). length field ≤ table_limit) fields
+
+-- the records that a text has still to give
+abbrev pub to_come : TextRecords → List (List (List ℕ))
+to_come records = records_in (drop records.at records.text.now)
+
+pub record AreRead (records : TextRecords) : Type 0 where
+  pub small : length records.text.now ≤ table_limit
+  pub place : records.at ≤ length records.text.now

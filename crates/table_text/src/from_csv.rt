@@ -1,13 +1,12 @@
 // Whole tables from their text.
 ghost use Rattle.std.specs.Prelude.{◌≡◌, ◌≤◌, length, Ok, OnOk, IfOk, IfErr};
 ghost use Rattle.csv.specs.Records.{fields_of};
-ghost use Rattle.table_text.specs.Records as records;
+ghost use Rattle.table_text.specs.Records as reading;
 ghost use Rattle.table_text.specs.Tables as tables;
-ghost use Rattle.table_text.specs.TextRecords as reading;
 
 use crate::fields::push_field;
 use crate::header::read_header;
-use crate::records::{TextRecords, field_of, open, read_next};
+use crate::records::{TextRecords, field_of, open};
 use crate::refusals::{FieldRefusal, RecordRefusal};
 use csv::ByteRecord;
 use plain_pages::{Table, TableColumn};
@@ -33,7 +32,7 @@ pub fn table_from_csv(alloc: Global, bytes: &[u8]) -> Result<Table, TableRefusal
 {
     let mut records = open(alloc, bytes);
     let mut record = ByteRecord::new(alloc);
-    let Ok(found) = read_next(alloc, &mut records, &mut record) else {
+    let Ok(found) = records.read(&mut record) else {
         return Err(TableRefusal::OutOfMemory);
     };
     if !found {
@@ -63,7 +62,7 @@ fn read_rows(
 {
     let mut room = Vec::new(alloc);
     for entry in 1..u64::MAX {
-        let Ok(found) = read_next(alloc, records, record) else {
+        let Ok(found) = records.read(record) else {
             return Err(TableRefusal::OutOfMemory);
         };
         if !found {
@@ -82,7 +81,7 @@ fn read_row(
     entry: u64,
     room: &mut Vec<u8>,
 ) -> Result<(), TableRefusal>
-    requires { records.AreShort (fields_of record.now) }
+    requires { reading.AreShort (fields_of record.now) }
     ensures ok { OnOk result (tables.row_read entry columns.old.items (fields_of record.now) ≡ Ok columns.new.items) }
     ensures err { IfErr result (λ e. tables.IsRefusalOf (tables.row_read entry columns.old.items (fields_of record.now)) e) }
 {
@@ -114,7 +113,7 @@ fn add_record(
     room: &mut Vec<u8>,
 ) -> Result<(), RecordRefusal>
     requires long { length (fields_of record.now) ≡ length columns.old.items }
-    requires short { records.AreShort (fields_of record.now) }
+    requires short { reading.AreShort (fields_of record.now) }
     ensures ok { OnOk result (tables.row_added 0 columns.old.items (fields_of record.now) ≡ Ok columns.new.items) }
     ensures err { IfErr result (λ e. tables.IsRecordRefusalOf (tables.row_added 0 columns.old.items (fields_of record.now)) e) }
 {

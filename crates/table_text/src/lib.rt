@@ -7,13 +7,12 @@ mod fields;
 mod from_csv;
 mod generated;
 mod header;
-mod lines;
 mod numbers;
 mod plain_records;
-mod reader;
 mod reading_back;
 mod records;
 mod refusals;
+mod splitting;
 mod texts;
 
 pub use from_csv::{TableRefusal, table_from_csv};

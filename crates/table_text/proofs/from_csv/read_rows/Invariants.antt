@@ -1,5 +1,5 @@
 use Rattle.std.proofs.Common.{◌≡◌}
-use Rattle.table_text.specs.TextRecords.{AreRead, to_come}
+use Rattle.table_text.specs.Records.{AreRead, to_come}
 use Rattle.table_text.specs.Tables.{rows_added}
 use Rattle.table_text.proofs.from_csv.read_rows.Given as goal
 
