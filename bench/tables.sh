@@ -241,6 +241,8 @@ text("floats", "a:float", "0000803f", 4_000_000)
 text("three empty texts", "a:text,b:text,c:text", ",,", 10_000_000)
 text("two empty texts under a quoted header", '"a:text",b:text', ",", 10_000_000)
 text("empty texts in quotes", "a:text", '""', 10_000_000)
+text("two letters in quotes", "a:text,b:text", '"x","y"', 4_000_000)
+text("texts of 1 MB in quotes", "a:text", '"' + "x" * 1_000_000 + '"', 100)
 many = 32_768
 text("many columns of one digit", ",".join(f"{n}:int64" for n in range(many)), ",".join("7" * many), 300)
 text("many columns of truths", ",".join(f"{n}:bool" for n in range(many)), ",".join(["true"] * many), 100)
