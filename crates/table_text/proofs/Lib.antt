@@ -4,8 +4,6 @@ pub mod DrawLemmas
 pub mod HeaderBack
 pub mod HeaderLemmas
 pub mod Numerals
-pub mod PlainLemmas
 pub mod RecordLemmas
-pub mod SplitLemmas
 pub mod TableBack
 pub mod TableLemmas

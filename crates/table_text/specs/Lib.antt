@@ -2,10 +2,8 @@ pub mod Cells
 pub mod Generated
 pub mod Headers
 pub mod Numbers
-pub mod PlainRecords
 pub mod ReadingBack
 pub mod Records
-pub mod Splitting
 pub mod Tables
 pub mod Texts
 pub mod Types

@@ -1,10 +1,13 @@
 -- The records of a text, by the state machine of `csv` without headers.
-use Rattle.std.specs.Prelude.{ℕ, ◌+◌, ◌≤◌, List, [], drop, length, Option, Some, None}
+use Rattle.std.specs.Prelude.{◌≡◌, ℕ, ◌+◌, ◌≤◌, List, [], length, true, ⊤, Option, Some, None}
 use Rattle.std.specs.List.{AllByRecursion}
-use Rattle.csv.specs.Reading.{default_config, records, records_from, strip_bom}
+use denote.Ref.{Bor}
+use Rattle.csv.specs.Reading.{Ready, default_config, is_flexible, records, records_from, source_of, strip_bom}
+use Rattle.csv.specs.declared.error.ErrorKind.{ErrorKind}
+use Rattle.csv.specs.declared.error.ErrorKind.TheVariants.{Io, OutOfMemory}
 use Rattle.csv.specs.declared.parser.State.{State}
-use Rattle.csv.specs.declared.parser.State.TheVariants as st
-use Rattle.table_text.specs.declared.records.TextRecords.{TextRecords}
+use Rattle.csv.specs.declared.reader.Reader.{Reader}
+use Rattle.csv.specs.declared.reader.Trim.TheVariants as trim
 
 -- the records of a text, without a byte order mark at its front; lines without a byte are none
 unfoldable pub records_of : List ℕ → List (List (List ℕ))
@@ -15,22 +18,36 @@ unfoldable pub records_left : State → Option (List ℕ) → List (List (List �
 records_left state None = []
 records_left state (Some rest) = records_from default_config (length rest + 1) state rest
 
--- the records of a part of a text that begins a line
-abbrev pub records_in : List ℕ → List (List (List ℕ))
-records_in part = records_left st.StartRecord (Some part)
+abbrev pub SliceReader : Type 0
+SliceReader = Reader (Bor (List ℕ))
+
+abbrev pub left_of : SliceReader → Option (List ℕ)
+left_of reader = source_of (λ s. Some s.now) reader
+
+-- the records that a reader has still to give
+abbrev pub to_come : SliceReader → List (List (List ℕ))
+to_come reader = records_left reader.state (left_of reader)
 
 -- the most bytes that a table's text has
 abbrev pub table_limit : ℕ
 table_limit = 268435456
 
+-- a reader that gives records as they stand
+pub record IsReading (reader : SliceReader) : Type 0 where
+  pub ready : Ready reader
+  pub trim : reader.trim ≡ trim.None
+  pub config : reader.config ≡ default_config
+  pub flexible : is_flexible reader ≡ true
+  pub left : List ℕ
+  pub left_is : left_of reader ≡ Some left
+  pub small : length left ≤ table_limit
+
 -- no field is longer than a table's text may be
 abbrev pub AreShort : List (List ℕ) → Type 0
 AreShort fields = AllByRecursion (λ (field : List ℕ). length field ≤ table_limit) fields
 
--- the records that a text has still to give
-abbrev pub to_come : TextRecords → List (List (List ℕ))
-to_come records = records_in (drop records.at records.text.now)
-
-pub record AreRead (records : TextRecords) : Type 0 where
-  pub small : length records.text.now ≤ table_limit
-  pub place : records.at ≤ length records.text.now
+-- a failure of memory, or of what is read from
+abbrev pub IsOutside : ErrorKind → Type 0
+IsOutside (Io e) = ⊤
+IsOutside OutOfMemory = ⊤
+IsOutside _ = ⊥

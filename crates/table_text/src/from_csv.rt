@@ -1,14 +1,14 @@
 // Whole tables from their text.
 ghost use Rattle.std.specs.Prelude.{◌≡◌, ◌≤◌, length, Ok, OnOk, IfOk, IfErr};
 ghost use Rattle.csv.specs.Records.{fields_of};
-ghost use Rattle.table_text.specs.Records as reading;
+ghost use Rattle.table_text.specs.Records as records;
 ghost use Rattle.table_text.specs.Tables as tables;
 
 use crate::fields::push_field;
 use crate::header::read_header;
-use crate::records::{TextRecords, field_of, open};
+use crate::records::{field_of, open, read_next};
 use crate::refusals::{FieldRefusal, RecordRefusal};
-use csv::ByteRecord;
+use csv::{ByteRecord, Reader};
 use plain_pages::{Table, TableColumn};
 use std::alloc::Global;
 
@@ -30,9 +30,9 @@ pub fn table_from_csv(alloc: Global, bytes: &[u8]) -> Result<Table, TableRefusal
     ensures ok { IfOk result (λ table. tables.table bytes.now ≡ Ok table) }
     ensures err { IfErr result (λ e. tables.IsRefusalOf (tables.table bytes.now) e) }
 {
-    let mut records = open(alloc, bytes);
+    let mut reader = open(alloc, bytes);
     let mut record = ByteRecord::new(alloc);
-    let Ok(found) = records.read(&mut record) else {
+    let Ok(found) = read_next(&mut reader, &mut record) else {
         return Err(TableRefusal::OutOfMemory);
     };
     if !found {
@@ -42,7 +42,8 @@ pub fn table_from_csv(alloc: Global, bytes: &[u8]) -> Result<Table, TableRefusal
         Ok(columns) => columns,
         Err(error) => return Err(in_record(error, 0)),
     };
-    if let Err(error) = read_rows(alloc, &mut records, &mut record, &mut columns) {
+    let mut room = Vec::new(alloc);
+    if let Err(error) = read_rows(&mut reader, &mut record, &mut columns, &mut room) {
         return Err(error);
     }
     Ok(Table::from_columns(columns))
@@ -51,24 +52,23 @@ pub fn table_from_csv(alloc: Global, bytes: &[u8]) -> Result<Table, TableRefusal
 /// Adds all records that are left, the first of which has the number 1.
 #[tactic(auto, using(crate::proofs::TableLemmas::rows_step, crate::proofs::TableLemmas::rows_refused))]
 fn read_rows(
-    alloc: Global,
-    records: &mut TextRecords<'_>,
+    reader: &mut Reader<&[u8]>,
     record: &mut ByteRecord,
     columns: &mut Vec<TableColumn>,
+    room: &mut Vec<u8>,
 ) -> Result<(), TableRefusal>
-    requires { reading.AreRead records.old }
-    ensures ok { OnOk result (tables.rows_added 1 columns.old.items (reading.to_come records.old) ≡ Ok columns.new.items) }
-    ensures err { IfErr result (λ e. tables.IsRefusalOf (tables.rows_added 1 columns.old.items (reading.to_come records.old)) e) }
+    requires { records.IsReading reader.old }
+    ensures ok { OnOk result (tables.rows_added 1 columns.old.items (records.to_come reader.old) ≡ Ok columns.new.items) }
+    ensures err { IfErr result (λ e. tables.IsRefusalOf (tables.rows_added 1 columns.old.items (records.to_come reader.old)) e) }
 {
-    let mut room = Vec::new(alloc);
     for entry in 1..u64::MAX {
-        let Ok(found) = records.read(record) else {
+        let Ok(found) = read_next(reader, record) else {
             return Err(TableRefusal::OutOfMemory);
         };
         if !found {
             return Ok(());
         }
-        if let Err(error) = read_row(columns, record, entry, &mut room) {
+        if let Err(error) = read_row(columns, record, entry, room) {
             return Err(error);
         }
     }
@@ -81,7 +81,7 @@ fn read_row(
     entry: u64,
     room: &mut Vec<u8>,
 ) -> Result<(), TableRefusal>
-    requires { reading.AreShort (fields_of record.now) }
+    requires { records.AreShort (fields_of record.now) }
     ensures ok { OnOk result (tables.row_read entry columns.old.items (fields_of record.now) ≡ Ok columns.new.items) }
     ensures err { IfErr result (λ e. tables.IsRefusalOf (tables.row_read entry columns.old.items (fields_of record.now)) e) }
 {
@@ -113,7 +113,7 @@ fn add_record(
     room: &mut Vec<u8>,
 ) -> Result<(), RecordRefusal>
     requires long { length (fields_of record.now) ≡ length columns.old.items }
-    requires short { reading.AreShort (fields_of record.now) }
+    requires short { records.AreShort (fields_of record.now) }
     ensures ok { OnOk result (tables.row_added 0 columns.old.items (fields_of record.now) ≡ Ok columns.new.items) }
     ensures err { IfErr result (λ e. tables.IsRecordRefusalOf (tables.row_added 0 columns.old.items (fields_of record.now)) e) }
 {

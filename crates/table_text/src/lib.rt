@@ -8,11 +8,9 @@ mod from_csv;
 mod generated;
 mod header;
 mod numbers;
-mod plain_records;
 mod reading_back;
 mod records;
 mod refusals;
-mod splitting;
 mod texts;
 
 pub use from_csv::{TableRefusal, table_from_csv};

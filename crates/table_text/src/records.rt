@@ -1,72 +1,50 @@
-// The records of a text, one after the other.
-ghost use Rattle.std.specs.Prelude.{◌≡◌, ◌<◌, ◌≤◌, ◌∷◌, Some, [], length, true, false, IfOk, OnOk};
-ghost use Rattle.csv.specs.Reading.{strip_bom};
+// The records of a table's text, one after the other.
+ghost use Rattle.std.specs.Prelude.{◌≡◌, ◌<◌, ◌≤◌, ◌∷◌, Some, [], length, true, false, IfOk};
 ghost use Rattle.csv.specs.Records.{field_at, fields_of};
-ghost use Rattle.table_text.specs.Records as spec;
-ghost use Rattle.table_text.specs.Splitting.{is_marked};
+ghost use Rattle.table_text.specs.Records as records;
 
-use crate::splitting::{past_line_ends, read_fields};
-use csv::ByteRecord;
+use csv::{ByteRecord, ErrorKind, Reader, ReaderBuilder};
 use pme_base::OutOfMemory;
 use std::alloc::Global;
 
-/// The records that are still to come.
-#[derive(Drop)]
-pub struct TextRecords<'a> {
-    text: &'a [u8],
-    /// Where the next record is looked for.
-    at: usize,
-    /// For a field with quotes.
-    room: Vec<u8>,
-}
-
-/// Whether a byte order mark stands at the front of a text.
-fn has_mark(text: &[u8]) -> bool
-    ensures { result ≡ is_marked text.now }
-{
-    match text {
-        [a, b, c, ..] => *a == 0xEF && *b == 0xBB && *c == 0xBF,
-        _ => false,
-    }
-}
-
-#[tactic(auto, using(crate::proofs::SplitLemmas::with_mark, crate::proofs::SplitLemmas::no_mark))]
-fn without_mark(text: &[u8]) -> &[u8]
-    ensures { result.now ≡ strip_bom text.now }
-{
-    if has_mark(text) { &text[3..] } else { text }
-}
-
-/// The records of a text. A byte order mark at its front is passed over.
-#[tactic(auto, using(crate::proofs::SplitLemmas::all_to_come, crate::proofs::SplitLemmas::stripped))]
-pub fn open<'a>(alloc: Global, text: &'a [u8]) -> TextRecords<'a>
+/// A reader of the records of a text. A byte order mark at its front is passed over.
+pub fn open<'a>(alloc: Global, text: &'a [u8]) -> Reader<&'a [u8]>
     requires { length text.now ≤ 268435456 }
-    ensures reading { spec.AreRead result }
-    ensures all { spec.to_come result ≡ spec.records_of text.now }
+    ensures reading { records.IsReading result }
+    ensures all { records.to_come result ≡ records.records_of text.now }
 {
-    TextRecords {
-        text: without_mark(text),
-        at: 0,
-        room: Vec::new(alloc),
+    ReaderBuilder::new()
+        .has_headers(false)
+        .flexible(true)
+        .from_reader(alloc, text)
+}
+
+/// Reads the next record, if there is one.
+pub fn read_next(reader: &mut Reader<&[u8]>, record: &mut ByteRecord) -> Result<bool, OutOfMemory>
+    requires { records.IsReading reader.old }
+    ensures found { IfOk result (λ found. found ≡ true → records.to_come reader.old ≡ fields_of record.new ∷ records.to_come reader.new) }
+    ensures end { IfOk result (λ found. found ≡ false → records.to_come reader.old ≡ []) }
+    ensures reading { IfOk result (λ found. found ≡ true → records.IsReading reader.new) }
+    ensures short { IfOk result (λ found. found ≡ true → records.AreShort (fields_of record.new)) }
+{
+    match reader.read_byte_record(record) {
+        Ok(found) => Ok(found),
+        Err(error) => Err(cause_of(error.kind())),
     }
 }
 
-impl<'a> TextRecords<'a> {
-    /// Reads the next record, if there is one.
-    #[tactic(auto, using(crate::proofs::SplitLemmas::none_left))]
-    pub fn read(&mut self, record: &mut ByteRecord) -> Result<bool, OutOfMemory>
-        requires { spec.AreRead self.old }
-        ensures found { IfOk result (λ found. found ≡ true → spec.to_come self.old ≡ fields_of record.new ∷ spec.to_come self.new) }
-        ensures end { IfOk result (λ found. found ≡ false → spec.to_come self.old ≡ []) }
-        ensures reading { OnOk result (spec.AreRead self.new) }
-        ensures short { IfOk result (λ found. found ≡ true → spec.AreShort (fields_of record.new)) }
-    {
-        let from = past_line_ends(self.text, self.at);
-        if from == self.text.len() {
-            return Ok(false);
-        }
-        self.at = read_fields(self.text, from, record, &mut self.room)?;
-        Ok(true)
+/// A read from memory fails for want of memory alone. The contract of `csv` leaves room for a reader underneath that
+/// fails, which is told as the same; records of other lengths are no failure.
+fn cause_of(kind: &ErrorKind) -> OutOfMemory
+    requires { records.IsOutside kind.now }
+{
+    match kind {
+        ErrorKind::Io(_) => OutOfMemory,
+        ErrorKind::OutOfMemory => OutOfMemory,
+        ErrorKind::Utf8 { .. } => unreachable!(),
+        ErrorKind::UnequalLengths { .. } => unreachable!(),
+        ErrorKind::Serialize(_) => unreachable!(),
+        ErrorKind::Deserialize { .. } => unreachable!(),
     }
 }
 

@@ -1,7 +1,6 @@
 // Cells, records and headers as text.
-ghost use Rattle.std.specs.Prelude.{◌≡◌, ◌<◌, ◌++◌, length, slice_get, codes, if◌then◌else◌, IfOk, OnOk, OnErr};
+ghost use Rattle.std.specs.Prelude.{◌≡◌, ◌<◌, ◌++◌, length, map, slice_get, codes, if◌then◌else◌, IfOk, OnOk, OnErr};
 ghost use Rattle.std.specs.List.{AllByRecursion};
-ghost use Rattle.csv.specs.Records.{fields_of, partial_of};
 ghost use Rattle.csv.specs.Writing.{default_writer, row_text as record_text};
 ghost use Rattle.std.specs.Fmt.{decimal, signed_decimal};
 ghost use Rattle.hex.specs.Hex.{encode_lower};
@@ -9,8 +8,7 @@ ghost use Rattle.plain_pages.specs.Cells.{cell_of};
 ghost use Rattle.plain_pages.specs.Columns.{IsCellOf};
 ghost use Rattle.table_text.specs.Texts as texts;
 
-use crate::plain_records::{are_plain, plain_row};
-use csv::{ByteRecord, WriterBuilder};
+use csv::WriterBuilder;
 use itoa::Buffer;
 use parquet_types::{ColumnKind, ColumnSpec, FlatSchema};
 use plain_pages::CellRef;
@@ -118,35 +116,22 @@ pub fn row_text(alloc: Global, cells: &CellTexts, into: &mut Bytes) -> Result<()
     ensures written { OnOk result (into.new ≡ into.old ++ record_text default_writer cells.now) }
     ensures unchanged { OnErr result (into.new ≡ into.old) }
 {
-    if are_plain(cells.as_slice()) {
-        return plain_row(cells.as_slice(), into);
-    }
-    let record = record_of(alloc, cells)?;
-    let text = text_of(alloc, &record)?;
-    into.extend(text.as_slice())
-}
-
-fn record_of(alloc: Global, cells: &CellTexts) -> Result<ByteRecord, OutOfMemory>
-    ensures { IfOk result (λ row. fields_of row ≡ cells.now) }
-{
-    let mut record = ByteRecord::new(alloc);
-    for cell in cells.as_slice() {
-        record.push_field(cell.as_slice())?;
-    }
-    Ok(record)
-}
-
-fn text_of(alloc: Global, record: &ByteRecord) -> Result<Vec<u8>, OutOfMemory>
-    ensures { IfOk result (λ text. text.items ≡ record_text default_writer (fields_of record.now)) }
-{
+    let fields = fields_of(alloc, cells)?;
     let mut writer = WriterBuilder::new().from_writer(Vec::new(alloc));
-    if writer.write_byte_record(record).is_err() {
+    if writer.write_fields(fields.as_slice()).is_err() || writer.flush().is_err() {
         return Err(OutOfMemory);
     }
-    match writer.into_inner() {
-        Ok(text) => Ok(text),
-        Err(_) => Err(OutOfMemory),
+    into.extend(writer.get_ref().as_slice())
+}
+
+fn fields_of<'a>(alloc: Global, cells: &'a CellTexts) -> Result<Vec<&'a [u8]>, OutOfMemory>
+    ensures { IfOk result (λ fields. map (λ field. field.now) fields.items ≡ cells.now) }
+{
+    let mut fields = Vec::new(alloc);
+    for cell in cells.as_slice() {
+        fields.push(cell.as_slice())?;
     }
+    Ok(fields)
 }
 
 /// Adds the header of the chosen columns to the end of `into`: each as `name:type`, with `?` behind it where nulls may
@@ -162,20 +147,18 @@ pub fn header_text(
     ensures written { OnOk result (into.new ≡ into.old ++ record_text default_writer (texts.headings schema.now chosen.now)) }
     ensures unchanged { OnErr result (into.new ≡ into.old) }
 {
-    let record = header_of(alloc, schema, chosen)?;
-    let text = text_of(alloc, &record)?;
-    into.extend(text.as_slice())
+    let headings = headings_of(alloc, schema, chosen)?;
+    row_text(alloc, &headings, into)
 }
 
-fn header_of(alloc: Global, schema: &FlatSchema, chosen: &Choice) -> Result<ByteRecord, OutOfMemory>
-    ensures { IfOk result (λ row. fields_of row ≡ texts.headings schema.now chosen.now) }
+fn headings_of(alloc: Global, schema: &FlatSchema, chosen: &Choice) -> Result<CellTexts, OutOfMemory>
+    ensures { IfOk result (λ headings. headings ≡ texts.headings schema.now chosen.now) }
 {
-    let mut record = ByteRecord::new(alloc);
+    let mut headings = CellTexts::new(alloc);
     for column in chosen.as_slice() {
-        let heading = heading_of(alloc, schema, *column)?;
-        record.push_field(heading.as_slice())?;
+        headings.push(heading_of(alloc, schema, *column)?)?;
     }
-    Ok(record)
+    Ok(headings)
 }
 
 fn heading_of(alloc: Global, schema: &FlatSchema, column: usize) -> Result<Bytes, OutOfMemory>

@@ -1,6 +1,0 @@
-use Rattle.std.proofs.Common.{◌≡◌, [], take}
-use Rattle.csv.specs.Records.{fields_of, partial_of}
-use Rattle.table_text.proofs.texts.record_of.Given as goal
-
-abbrev pub invariant-loop-cell : goal.invariant-loop-cell
-invariant-loop-cell l = (fields_of l.record ≡ take l.cell-index l.cells) × (partial_of l.record ≡ [])
