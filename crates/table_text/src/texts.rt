@@ -151,7 +151,11 @@ pub fn header_text(
     row_text(alloc, &headings, into)
 }
 
-fn headings_of(alloc: Global, schema: &FlatSchema, chosen: &Choice) -> Result<CellTexts, OutOfMemory>
+fn headings_of(
+    alloc: Global,
+    schema: &FlatSchema,
+    chosen: &Choice,
+) -> Result<CellTexts, OutOfMemory>
     ensures { IfOk result (λ headings. headings ≡ texts.headings schema.now chosen.now) }
 {
     let mut headings = CellTexts::new(alloc);
