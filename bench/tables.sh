@@ -213,6 +213,8 @@ def reading(name):
     (alone, fields), _ = times(sys.argv[2], False, 9)
     assert fields == columns * (rows + 1)
     print(f"read {name}: {size * 1000 / took:.0f} MB/s (records alone {size * 1000 / alone:.0f}), {memory / size:.1f} times its bytes of memory, {rows} rows of {columns} columns", flush=True)
+# The aims for reading and writing are for generated rows. The other texts show what becomes of them where cells are
+# short, long or in quotes, and where columns are very many.
 reading("generated rows")
 def text(name, header, row, count):
     with open("table.csv", "w", newline="") as out:
@@ -246,6 +248,7 @@ text("texts of 1 MB in quotes", "a:text", '"' + "x" * 1_000_000 + '"', 100)
 many = 32_768
 text("many columns of one digit", ",".join(f"{n}:int64" for n in range(many)), ",".join("7" * many), 300)
 text("many columns of truths", ",".join(f"{n}:bool" for n in range(many)), ",".join(["true"] * many), 100)
+text("a thousand columns of empty texts", ",".join(f"{n}:text" for n in range(1000)), "," * 999, 20_000)
 def header(name, count):
     with open("table.csv", "w") as out:
         for n in range(count - 1):
