@@ -213,8 +213,8 @@ def reading(name):
     (alone, fields), _ = times(sys.argv[2], False, 9)
     assert fields == columns * (rows + 1)
     print(f"read {name}: {size * 1000 / took:.0f} MB/s (records alone {size * 1000 / alone:.0f}), {memory / size:.1f} times its bytes of memory, {rows} rows of {columns} columns", flush=True)
-# The aims for reading and writing are for generated rows. The other texts show what becomes of them where cells are
-# short, long or in quotes, and where columns are very many.
+# Generated rows first, and then what becomes of the rate where cells are short, long or in quotes, and where columns
+# are very many.
 reading("generated rows")
 def text(name, header, row, count):
     with open("table.csv", "w", newline="") as out:
