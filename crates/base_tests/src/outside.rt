@@ -136,6 +136,10 @@ impl Files for Trickle {
 
     ghost faults = { λ t. t.faults };
 
+    ghost bytes = { λ _. tt };
+
+    ghost pending_bytes = { λ _. tt };
+
     fn size(&mut self, _name: &str) -> Result<Option<u64>, Trouble> {
         Ok(Some(5))
     }

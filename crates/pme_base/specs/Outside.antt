@@ -1,6 +1,6 @@
 -- What the outside means: published files, pending bytes, bytes still to come and bytes written. An object that
 -- doesn't tell its contents has None for them, and then each word here gives None.
-use Rattle.std.specs.Prelude.{◌≡◌, ℕ, ◌+◌, ◌-◌, ◌^◌, ◌<◌, ◌≤◌, min, List, [], ◌++◌, take, drop, length, Option, None, Some, unwrap_or, option_map, Result, Ok, Err, IsErrOf}
+use Rattle.std.specs.Prelude.{◌≡◌, ℕ, ◌+◌, ◌-◌, ◌^◌, ◌<◌, ◌≤◌, min, slice_index, List, [], ◌++◌, take, drop, length, Option, None, Some, unwrap_or, option_map, Result, Ok, Err, IsErrOf}
 use Rattle.std.specs.Cmp.Lexicographic.{slice_cmp}
 use Rattle.std.specs.Ordering.{nat_cmp}
 use Rattle.std.specs.FinMap.{FinMap, get, insert}
@@ -11,6 +11,14 @@ use Rattle.pme_base.specs.Counts.{Rose}
 -- the published files: a finite map from names to bytes
 abbrev pub Published : Type 0
 Published = FinMap (slice_cmp nat_cmp) (List ℕ)
+
+-- each item is a byte
+abbrev pub AreBytes : List ℕ → Type 0
+AreBytes bytes = (i : ℕ) → slice_index bytes i < 256
+
+-- each file holds bytes
+abbrev pub HoldBytes : Published → Type 0
+HoldBytes files = (name bytes : List ℕ) → get files name ≡ Some bytes → AreBytes bytes
 
 -- the bytes of a file, none where it isn't published
 abbrev pub bytes_of : Published → List ℕ → List ℕ
@@ -42,11 +50,13 @@ pub record IsReadAt (bytes : List ℕ) (at count : ℕ) (into : List ℕ) : Type
   pub within : count ≤ length bytes - at
   pub nonzero : 0 < length into → at < length bytes → 0 < count
 
--- so many bytes at the front of a buffer are those of a file from a place on, and fewer than asked only at its end
+-- `count` bytes at the front of a buffer are the file's bytes from offset `at` on, and fewer than the buffer has room
+-- for only at the file's end. Offsets have 64 bits: where both the file and the buffer reach past the last offset, no
+-- number of bytes is said.
 pub record IsReadFull (bytes : List ℕ) (at count : ℕ) (into : List ℕ) : Type 0 where
   pub front : take count into ≡ take count (drop at bytes)
   pub within : count ≤ length bytes - at
-  pub whole : length bytes < 2 ^ 64 → count ≡ min (length into) (length bytes - at)
+  pub whole : min (at + length into) (length bytes) ≤ 2 ^ 64 → count ≡ min (length into) (length bytes - at)
 
 -- a count of bytes given rose by so many, or to the last value of 64 bits
 pub record RoseBy (count before now : ℕ) : Type 0 where

@@ -1,9 +1,8 @@
 ghost use Rattle.std.specs.Prelude.{◌≡◌, ◌+◌, ◌-◌, ◌≤◌, ◌↔◌, ◌∷◌, ◌++◌, [], min, max, true, length, Some, option_map, option_copied, if◌then◌else◌, is_ok, OnOk, OnErr, IfOk, IfSome, IsErrOf, IsOkUnless};
-ghost use Rattle.std.specs.FinMap.{empty, get, insert, find};
+ghost use Rattle.std.specs.FinMap.{empty, get, insert, find, from_entries};
 ghost use Rattle.std.specs.Cmp.Lexicographic.{slice_cmp};
 ghost use Rattle.std.specs.Ordering.{nat_cmp};
-ghost use Rattle.pme_base.specs.Outside.{bytes_of, nothing_pending, followed_by, with_file, given_after, IsReadAt, HasCause};
-ghost use Rattle.pme_base.specs.Memory.{memory, mem_published, mem_pending, no_calls, is_failing, called};
+ghost use Rattle.pme_base.specs.Outside.{AreBytes, HoldBytes, bytes_of, nothing_pending, followed_by, with_file, given_after, IsReadAt, HasCause};
 
 use crate::bytes::Bytes;
 use crate::calls::Calls;
@@ -25,9 +24,13 @@ pub struct MemFiles {
     given: u64,
     largest_read: u64,
     largest_append: u64,
+    ghost files_hold_bytes: { HoldBytes (from_entries log.items) },
+    ghost pending_are_bytes: { AreBytes pending },
 }
 
 impl MemFiles {
+    ghost use Rattle.pme_base.specs.Memory.{memory, mem_published, no_calls};
+
     /// No files, and nothing pending.
     pub fn new(alloc: Global) -> MemFiles
         ensures { memory result ≡ record { published = empty; pending = []; given = 0; largest_read = 0; largest_append = 0; calls = no_calls } }
@@ -97,6 +100,8 @@ fn newest<'a>(log: &'a VecDeque<(Bytes, Bytes)>, name: &str) -> Option<&'a [u8]>
 }
 
 impl Files for MemFiles {
+    ghost use Rattle.pme_base.specs.Memory.{memory, mem_published, mem_pending, is_failing, called};
+
     ghost published = { λ m. Some (mem_published m) };
 
     ghost pending = { λ m. Some (mem_pending m) };
@@ -104,6 +109,10 @@ impl Files for MemFiles {
     ghost given = { λ m. (memory m).given };
 
     ghost faults = { λ m. (memory m).calls.faults };
+
+    ghost bytes = { λ m. m.files_hold_bytes };
+
+    ghost pending_bytes = { λ m. m.pending_are_bytes };
 
     fn size(&mut self, name: &str) -> Result<Option<u64>, Trouble>
         ensures told { IfOk result (λ size. size ≡ option_map length (get (mem_published self.old) name.now)) }

@@ -1,13 +1,12 @@
 ghost use Rattle.std.specs.Prelude.{◌≡◌, ◌<◌, ◌≤◌, ◌↔◌, ◌⊎◌, ◌∷◌, ◌++◌, [], true, length, drop, Some, option_map, is_err, OnOk, OnErr, IfSome, IsErr};
-ghost use Rattle.pme_base.specs.Outside.{IsDrawn};
-ghost use Rattle.pme_base.specs.Memory.{mem_to_come, no_calls, is_failing, called};
+ghost use Rattle.pme_base.specs.Outside.{AreBytes, IsDrawn};
 ghost use Rattle.pme_base.specs.Counts.{Rose};
 
 use crate::bytes::Bytes;
 use crate::calls::Calls;
 use crate::memory_error::OutOfMemory;
 use crate::outside::{Failed, Random};
-use crate::rest::rest_from;
+use crate::rest::{are_bytes, rest_from};
 use std::alloc::Global;
 
 /// A source of known bytes, for tests. It tells them, and any of its calls can be set to fail.
@@ -16,14 +15,18 @@ pub struct MemRandom {
     calls: Calls,
     bytes: Bytes,
     next: u64,
+    ghost are_bytes: { AreBytes bytes },
 }
 
 impl MemRandom {
+    ghost use Rattle.pme_base.specs.Memory.{mem_to_come, no_calls};
+
     /// A source with `bytes` still to come.
     pub fn new(alloc: Global, bytes: Bytes) -> MemRandom
         ensures to_come { mem_to_come result ≡ bytes }
         ensures calls { result.calls ≡ no_calls }
     {
+        are_bytes(bytes.as_slice());
         MemRandom {
             calls: Calls::new(alloc),
             bytes,
@@ -42,9 +45,15 @@ impl MemRandom {
 }
 
 impl Random for MemRandom {
+    ghost use Rattle.pme_base.specs.Memory.{mem_to_come, is_failing, called};
+    ghost use Rattle.std.proofs.Common.{subst, sym, ◌+◌};
+    ghost use Rattle.std.proofs.lemmas.List.{get_or-drop};
+
     ghost to_come = { λ m. Some (mem_to_come m) };
 
     ghost faults = { λ m. m.calls.faults };
+
+    ghost bytes = { λ m i. subst (λ b. b < 256) (sym (get_or-drop m.next m.bytes i 0)) (m.are_bytes (m.next + i)) };
 
     fn fill(&mut self, into: &mut [u8]) -> Result<(), Failed>
         ensures told { OnOk result (IsDrawn (mem_to_come self.old) into.new) }

@@ -1,6 +1,6 @@
 ghost use Rattle.std.specs.Prelude.{◌≡◌, ℕ, ◌≤◌, List, length, drop, Option, option_map, OnOk, OnErr, IfOk, IfSome};
 ghost use Rattle.std.specs.FinMap.{get};
-ghost use Rattle.pme_base.specs.Outside.{Published, bytes_of, nothing_pending, followed_by, with_file, given_after, IsReadAt, IsDrawn, PutsFront, HasCause};
+ghost use Rattle.pme_base.specs.Outside.{Published, AreBytes, HoldBytes, bytes_of, nothing_pending, followed_by, with_file, given_after, IsReadAt, IsDrawn, PutsFront, HasCause};
 ghost use Rattle.pme_base.specs.Counts.{Rose};
 
 use crate::memory_error::OutOfMemory;
@@ -117,6 +117,12 @@ pub trait Files {
         ensures unchanged { OnErr result (published self.new ≡ published self.old) }
         ensures given { given self.new ≡ given self.old }
         ensures cause { HasCause (faults self.old) (faults self.new) result };
+
+    /// The files that the object tells hold bytes.
+    ghost bytes: { (files : Self) → IfSome (published files) HoldBytes };
+
+    /// The pending bytes that the object tells are bytes.
+    ghost pending_bytes: { (files : Self) → IfSome (pending files) AreBytes };
 }
 
 /// A source of random bytes.
@@ -133,6 +139,9 @@ pub trait Random {
         ensures rest { OnOk result (to_come self.new ≡ option_map (drop (length into.new)) (to_come self.old)) }
         ensures later { faults self.old ≤ faults self.new }
         ensures failed { OnErr result (Rose (faults self.old) (faults self.new)) };
+
+    /// The bytes to come that the object tells are bytes.
+    ghost bytes: { (random : Self) → IfSome (to_come random) AreBytes };
 }
 
 /// Where bytes are written to, one after another.

@@ -110,6 +110,10 @@ impl<R: rt::Files + Drop> Files for StdFiles<R> {
 
     ghost faults = { λ f. f.faults };
 
+    ghost bytes = { λ _. tt };
+
+    ghost pending_bytes = { λ _. tt };
+
     fn size(&mut self, name: &str) -> Result<Option<u64>, Trouble> {
         let found = match fs::metadata(&self.rt, name) {
             Err(error) if error.kind() == ErrorKind::NotFound => return Ok(None),

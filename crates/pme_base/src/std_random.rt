@@ -29,6 +29,8 @@ impl<R: rt::Files> Random for StdRandom<R> {
 
     ghost faults = { λ r. r.faults };
 
+    ghost bytes = { λ _. tt };
+
     fn fill(&mut self, into: &mut [u8]) -> Result<(), Failed> {
         let mut device = counted(&mut self.faults, fs::open(&self.rt, DEVICE))?;
         counted(&mut self.faults, device.read_exact(into))
