@@ -1,3 +1,6 @@
+pub mod Chain
+pub mod DraftSteps
 pub mod HeldBytes
 pub mod ReadSteps
+pub mod Traversed
 pub mod Trees

@@ -4,3 +4,6 @@ pub mod Places
 pub mod Refusals
 pub mod Steps
 pub mod Counts
+pub mod Drafts
+pub mod Lending
+pub mod Lists

@@ -1,5 +1,6 @@
 -- What a step of a call answers: the defined answer, or a refusal that no definition ties to the input.
 use Rattle.std.specs.Prelude.{◌≡◌, ℕ, ◌≤◌, Bool, false, Result, Ok, Err, IfErr}
+use Rattle.pme_base.specs.declared.refusal.Cause.{Cause}
 use Rattle.pme_base.specs.declared.refusal.Cause.TheVariants as cause_of
 use Rattle.pme_base.specs.declared.refusal.Refusal.{Refusal}
 use Rattle.pme_base.specs.Refusals.{is_free, is_fault}
@@ -29,17 +30,17 @@ and_then (Err refusal) next = Err refusal
 abbrev pub Quiet : {T : Type 0} → Result T Refusal → Type 0
 Quiet result = IfErr result (λ refusal. is_fault refusal.cause ≡ false)
 
--- the count of faults of files never falls, and a step answers ReadFault only where it rose
-pub record ReadsFail {T : Type 0} (before now : ℕ) (result : Result T Refusal) : Type 0 where
+-- a count of faults never falls, and a step answers this cause only where it rose
+pub record Fails {T : Type 0} (cause : Cause) (before now : ℕ) (result : Result T Refusal) : Type 0 where
   pub later : before ≤ now
-  pub failed : IfErr result (λ refusal. refusal.cause ≡ cause_of.ReadFault → Rose before now)
+  pub failed : IfErr result (λ refusal. refusal.cause ≡ cause → Rose before now)
 
--- the same of a sink, or of files that are written, and WriteFault
-pub record WritesFail {T : Type 0} (before now : ℕ) (result : Result T Refusal) : Type 0 where
-  pub later : before ≤ now
-  pub failed : IfErr result (λ refusal. refusal.cause ≡ cause_of.WriteFault → Rose before now)
+-- of files that are read; of a sink, or files that are written; of a source of random bytes
+abbrev pub ReadsFail : {T : Type 0} → ℕ → ℕ → Result T Refusal → Type 0
+ReadsFail before now result = Fails cause_of.ReadFault before now result
 
--- the same of a source of random bytes and RandomFault
-pub record DrawsFail {T : Type 0} (before now : ℕ) (result : Result T Refusal) : Type 0 where
-  pub later : before ≤ now
-  pub failed : IfErr result (λ refusal. refusal.cause ≡ cause_of.RandomFault → Rose before now)
+abbrev pub WritesFail : {T : Type 0} → ℕ → ℕ → Result T Refusal → Type 0
+WritesFail before now result = Fails cause_of.WriteFault before now result
+
+abbrev pub DrawsFail : {T : Type 0} → ℕ → ℕ → Result T Refusal → Type 0
+DrawsFail before now result = Fails cause_of.RandomFault before now result

@@ -1,4 +1,5 @@
-ghost use Rattle.std.specs.Prelude.{◌≡◌, [], ◌∷◌, ◌++◌, ◌==◌, length, OnOk, OnErr, IfOk};
+ghost use Rattle.std.specs.Prelude.{◌≡◌, [], ◌∷◌, ◌++◌, ◌==◌, length, take, OnOk, OnErr, IfOk};
+ghost use Rattle.std.specs.Borrow.{sem};
 
 use crate::memory_error::OutOfMemory;
 use std::alloc::Global;
@@ -20,6 +21,8 @@ impl Model for Bytes {
 }
 
 impl Bytes {
+    ghost use Rattle.pme_base.specs.Lending.{LendsBytes};
+
     /// The empty list; it takes no memory yet.
     pub fn new(alloc: Global) -> Bytes
         ensures { result ≡ [] }
@@ -76,6 +79,29 @@ impl Bytes {
         ensures { result.now ≡ self.now }
     {
         self.items.as_slice()
+    }
+
+    /// The bytes, to be changed in their places. The list keeps its length.
+    pub fn as_mut_slice(&mut self) -> &mut [u8]
+        ensures* writes_back { sem 𝓛 (LendsBytes self.entry result) }
+        ensures value { result.now ≡ self.old }
+    {
+        self.items.as_mut_slice()
+    }
+
+    /// Makes room for `more` further bytes, so that adding them takes no memory.
+    pub fn reserve(&mut self, more: usize) -> Result<(), OutOfMemory>
+        ensures { self.new ≡ self.old }
+    {
+        self.items.reserve(more)?;
+        Ok(())
+    }
+
+    /// Drops the bytes from `len` on; where there are no more than `len`, nothing changes.
+    pub fn truncate(&mut self, len: usize)
+        ensures { self.new ≡ take len self.old }
+    {
+        self.items.truncate(len);
     }
 
     /// How many bytes there are.
