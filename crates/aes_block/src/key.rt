@@ -63,6 +63,17 @@ impl AesKey {
         &self.round_keys[..self.key_length]
     }
 
+    /// A copy of the key. Its schedule is copied too and not made anew.
+    pub fn copy(&self) -> AesKey
+        ensures { result ≡ self.now }
+    {
+        AesKey {
+            key_length: self.key_length,
+            round_keys: self.round_keys,
+            inner_keys: self.inner_keys,
+        }
+    }
+
     /// The cipher of FIPS 197 of one block. It takes the time that four blocks take.
     pub fn encrypt_block(&self, block: [u8; 16]) -> [u8; 16]
         ensures { result ≡ aes self.now block }

@@ -7,6 +7,8 @@ use Rattle.std.specs.Int.{w32, to_le_bytes, from_le_bytes}
 use Rattle.std.specs.Str.{bytes_eq}
 use Rattle.pme_base.specs.declared.place.Place.{Place}
 use Rattle.pme_base.specs.Steps.{◌>>=◌}
+pub use Rattle.pme_base.proofs.Chain.{bind_ok, when_true, when_false}
+use Rattle.pme_base.proofs.Chain.{tested}
 use Rattle.gcm_seal.specs.Gcm.{gctr, tag_of}
 use Rattle.gcm_seal.proofs.Texts.{length-gctr, length-tag_of, gctr_twice}
 use Rattle.crypto_module.specs.Frames.{gcm_size}
@@ -15,27 +17,11 @@ use Rattle.crypto_module.specs.Opening.{unsealed, unsealed_whole, opened, AreByt
 use Rattle.crypto_module.proofs.Parts.{cut, HasParts, joined}
 use Rattle.crypto_module.proofs.Sizes.{IsSized, sized_is, sized_from}
 
-pub bind_ok : {S T E : Type 0} (r : Result S E) (f : S → Result T E) (t : T) → (r >>= f) ≡ Ok t → (s : S) × (r ≡ Ok s) × (f s ≡ Ok t)
-bind_ok (Ok s) f t e = (s, refl, e)
-bind_ok (Err x) f t e = cc
-
-tested_ok : {T E : Type 0} (b : Bool) (x t : T) (y : E) → (if b then Ok x else Err y) ≡ Ok t → (b ≡ true) × (x ≡ t)
-tested_ok true x t y e = (refl, cc)
-tested_ok false x t y e = cc
-
 pub same_bytes : (xs : List ℕ) → bytes_eq xs xs ≡ true
 same_bytes xs = (bytes_eq-Decides xs xs).1 refl
 
 pub take_length : (n : ℕ) (xs : List ℕ) → take (length (take n xs)) xs ≡ take n xs
 take_length n xs = ap (λ k. take k xs) (length-take n xs) ∙ take_min n xs
-
-pub when_true : {X : Type 0} (b : Bool) (x y : X) → b ≡ true → (if b then x else y) ≡ x
-when_true true x y e = refl
-when_true false x y e = cc
-
-pub when_false : {X : Type 0} (b : Bool) (x y : X) → (b ≡ true → ⊥) → (if b then x else y) ≡ y
-when_false true x y e = absurd (e refl)
-when_false false x y e = refl
 
 pub below_take : (n : ℕ) (xs : List ℕ) → AreBytes xs → AreBytes (take n xs)
 below_take zero xs h i = lit< tt
@@ -90,7 +76,7 @@ sealed_if_opened key aad plain place at limit fill bytes each e =
     let m = take size bytes in
     let sized : IsSized limit fill bytes size = sized_is place at limit fill bytes size framed in
     let same = bytes_eq (tag_of key (nonce_of m) aad (cipher_of m)) (stored_of m) in
-    let (tag_same, plain_is) = tested_ok same (gctr key (nonce_of m) 2 (cipher_of m)) plain _ opens in
+    let (tag_same, plain_is) = tested same (gctr key (nonce_of m) 2 (cipher_of m)) plain _ opens in
     let tag_is = (bytes_eq-Decides (tag_of key (nonce_of m) aad (cipher_of m)) (stored_of m)).0 tag_same in
     holds fill key aad plain limit bytes size sized.fills
     (subst (λ (p : List ℕ). IsGcm key aad p limit m) plain_is (front_sealed key aad limit fill bytes size (field_is limit fill bytes size each sized) sized tag_is))

@@ -7,6 +7,7 @@ use Rattle.pme_base.specs.declared.refusal.Cause.TheVariants.{BadTag}
 use Rattle.pme_base.specs.declared.refusal.Detail.TheVariants.{Tags}
 use Rattle.pme_base.specs.declared.refusal.Refusal.{Refusal}
 use Rattle.pme_base.specs.Refusals.{refusal_at}
+pub use Rattle.pme_base.specs.Outside.{AreBytes}
 use Rattle.pme_base.specs.Steps.{◌>>=◌}
 use Rattle.crypto_module.specs.declared.gcm_module.OpenModule.{OpenModule}
 use Rattle.crypto_module.specs.Frames.{gcm_size, ctr_size}
@@ -59,10 +60,6 @@ pub record IsCtrOpened (key : List ℕ) (limit : ℕ) (before after : List ℕ) 
   pub tag : open_module.tag ≡ replicate 16 0
   pub front_stays : take 16 after ≡ take 16 before
   pub rest_stays : drop (16 + open_module.length) after ≡ drop (16 + open_module.length) before
-
--- each item is a byte
-abbrev pub AreBytes : List ℕ → Type 0
-AreBytes bytes = (i : ℕ) → slice_index bytes i < 256
 
 -- bytes open to a text exactly where they hold its module
 abbrev pub OpensExactly : Type 0

@@ -133,19 +133,10 @@ fn key_among(keys: &[IdKey], id: &[u8]) -> KeyAnswer
 {
     for entry in keys {
         if entry.id.as_slice() == id {
-            return KeyAnswer::Held(copied(&entry.key));
+            return KeyAnswer::Held(entry.key.copy());
         }
     }
     KeyAnswer::Absent
-}
-
-fn copied(key: &AesKey) -> AesKey
-    ensures { result ≡ key.now }
-{
-    match AesKey::new(key.bytes()) {
-        Ok(copy) => copy,
-        Err(_) => unreachable!(),
-    }
 }
 
 // The id of a column whose key has no metadata.

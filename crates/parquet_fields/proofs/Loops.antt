@@ -5,7 +5,7 @@ use Rattle.thrift_compact.specs.declared.frame.Frame.{Frame}
 use Rattle.thrift_compact.specs.declared.frame.Frame.TheVariants as frame
 use Rattle.thrift_compact.specs.declared.refusal.ThriftRefusal.{ThriftRefusal}
 use Rattle.thrift_compact.specs.declared.refusal.ThriftRefusal.TheVariants.{Bad, OutOfMemory}
-use Rattle.thrift_compact.specs.Answers.{mapped, bind_ok, ok_is, err_is}
+use Rattle.thrift_compact.specs.Answers.{mapped, bind_ok, ok_same, err_same}
 use Rattle.thrift_compact.specs.Laws.{FieldsLeft, fields_begin, fields_no_head, fields_end, fields_no_value, fields_more, fields_same}
 use Rattle.thrift_compact.specs.Reading.{Fault, nest, value, field_head}
 use Rattle.thrift_compact.specs.Standing.{Standing, room, IsStruct, ids_of, FailsAt, GivesAt, BeginsStruct, ReadsField}
@@ -20,13 +20,13 @@ fails_with size other OutOfMemory part whole same leads fails = tt
 pub mapped_ok : {X Y : Type 0} (f : X → Y) (read : Result (X × List ℕ) Fault) (y : Y) (r : List ℕ) → mapped f read ≡ Ok (y, r) → (x : X) × (read ≡ Ok (x, r)) × (y ≡ f x)
 mapped_ok f read y r e =
     let x = bind_ok read (λ z. Ok (f z.0, z.1)) (y, r) e in
-    let same = ok_is (f x.0.0, x.0.1) (y, r) x.2 in
+    let same = ok_same (f x.0.0, x.0.1) (y, r) x.2 in
     let rest : x.0.1 ≡ r = ap (λ p. p.1) same in
     (x.0.0, x.1 ∙ ap (λ s. Ok (x.0.0, s)) rest, sym (ap (λ p. p.0) same))
 
 pub mapped_err : {X Y : Type 0} (f : X → Y) (read : Result (X × List ℕ) Fault) (g : Fault) → mapped f read ≡ Err g → read ≡ Err g
 mapped_err f (Ok x) g e = absurd cc
-mapped_err f (Err h) g e = ap (λ i. Err i) (err_is h g e)
+mapped_err f (Err h) g e = ap (λ i. Err i) (err_same h g e)
 
 -- the reader stands in a struct that was begun at `first`, and what is left of it makes the whole
 pub record Inside {X : Type 0} (make : Fields → X) (whole : Result (X × List ℕ) Fault) (first now : Standing) : Type 0 where

@@ -5,7 +5,7 @@ use Rattle.pme_base.specs.declared.refusal.Cause.TheVariants.{BadThrift, Missing
 use Rattle.pme_base.specs.Refusals.{is_fault}
 use Rattle.thrift_compact.specs.declared.kind.TKind.{TKind}
 use Rattle.thrift_compact.specs.declared.kind.TKind.TheVariants as kind
-use Rattle.thrift_compact.specs.Answers.{mapped, passed, passed_ok, bind_ok, bind_at, ok_is}
+use Rattle.thrift_compact.specs.Answers.{mapped, passed, passed_ok, bind_ok, bind_at, ok_same}
 use Rattle.thrift_compact.specs.Laws.{value_kind}
 use Rattle.thrift_compact.specs.Reading.{Fault, nest, value, element, truth_at, as_tree}
 use Rattle.thrift_compact.specs.Standing.{Standing, room, Moves, GivesAt}
@@ -29,7 +29,7 @@ not_struct checked t other = refl
 truth_item : {X : Type 0} (gives : Tree → Met X) → ((b : Bool) → Wrong ≡ gives (truth b)) → (bs : List ℕ) (t : Tree) (r : List ℕ) → as_tree truth truth_at bs ≡ Ok (t, r) → Wrong ≡ gives t
 truth_item gives wrong bs t r e =
     let x = bind_ok (truth_at bs) (λ b. Ok (truth b.0, b.1)) (t, r) e in
-    let same : truth x.0.0 ≡ t = ap (λ p. p.0) (ok_is (truth x.0.0, x.0.1) (t, r) x.2) in
+    let same : truth x.0.0 ≡ t = ap (λ p. p.0) (ok_same (truth x.0.0, x.0.1) (t, r) x.2) in
     wrong x.0.0 ∙ ap gives same
 
 other_item : {X : Type 0} (gives : Tree → Met X) (wanted k : TKind) → ((t : Tree) → kind_of_tree t ≢ wanted → Wrong ≡ gives t) → k ≢ wanted → (room : ℕ) (bs : List ℕ) (t : Tree) (r : List ℕ) → value room k bs ≡ Ok (t, r) → Wrong ≡ gives t

@@ -7,7 +7,8 @@ use Rattle.thrift_compact.specs.Kinds.{code, of_code}
 use Rattle.thrift_compact.specs.Reading.{Fault, byte_at, known, list_head, list_size, size_at, map_kinds, field_head, head_from, id_at, int16_at, fresh, last, small_id, is_among}
 use Rattle.thrift_compact.specs.Faults.{SizeFault, IsNoKind, ListHeadFault, no_list_head, no_element_kind, list_size_fault, MapKindsFault, FieldHeadFault, no_field_head, no_field_kind, id_fault, id_too_far, id_again}
 use Rattle.thrift_compact.specs.Spelled.{AreBytes}
-use Rattle.thrift_compact.proofs.Steps.{after_err, one_refusal, cond_err, chosen, equal_if, other_if}
+use Rattle.pme_base.proofs.Chain.{bind_refused}
+use Rattle.thrift_compact.proofs.Steps.{one_refusal, cond_err, chosen, equal_if, other_if}
 use Rattle.thrift_compact.proofs.Took.{Took, IsByte, byte_took}
 use Rattle.thrift_compact.proofs.TookHeads.{low_is, IsIdFrom, id_took, names_field, with_id, with_kind}
 use Rattle.thrift_compact.proofs.FaultNumbers.{byte_err, byte_is, number_err, size_err}
@@ -44,13 +45,13 @@ list_size_err n bs f each e =
 
 pub list_head_err : (bs : List ℕ) (f : Fault) → AreBytes bs → list_head bs ≡ Err f → ListHeadFault bs f
 list_head_err bs f each e =
-    after_err _ (byte_at bs) (λ b. known (length bs) (of_code (b.0 % 16)) >>= λ k. list_size (b.0 / 16) b.1 >>= λ n. Ok ((k, n.0), n.1)) f e
+    bind_refused _ (byte_at bs) (λ b. known (length bs) (of_code (b.0 % 16)) >>= λ k. list_size (b.0 / 16) b.1 >>= λ n. Ok ((k, n.0), n.1)) f e
     (λ refused. no_list_head (byte_err bs f refused)) (λ b read more.
     let parts = byte_is bs b read in
     let byte : Took (IsByte b.0) bs b.1 = byte_took bs b each read in
-    after_err _ (known (length bs) (of_code (b.0 % 16))) (λ k. list_size (b.0 / 16) b.1 >>= λ n. Ok ((k, n.0), n.1)) f more
+    bind_refused _ (known (length bs) (of_code (b.0 % 16))) (λ k. list_size (b.0 / 16) b.1 >>= λ n. Ok ((k, n.0), n.1)) f more
     (λ refused. let w = known_err (length bs) (b.0 % 16) f refused in no_element_kind (b.0, b.1, w.0, parts, w.1)) (λ k named later.
-    after_err _ (list_size (b.0 / 16) b.1) (λ n. Ok ((k, n.0), n.1)) f later
+    bind_refused _ (list_size (b.0 / 16) b.1) (λ n. Ok ((k, n.0), n.1)) f later
     (λ refused.
     let w = list_size_err (b.0 / 16) b.1 f byte.rest refused in
     let whole = low_is (length bs) b.0 k named in
@@ -59,12 +60,12 @@ list_head_err bs f each e =
 
 pub map_kinds_err : (bs : List ℕ) (f : Fault) → map_kinds bs ≡ Err f → MapKindsFault bs f
 map_kinds_err bs f e =
-    after_err _ (byte_at bs) (λ b. known (length bs) (of_code (b.0 / 16)) >>= λ key. known (length bs) (of_code (b.0 % 16)) >>= λ value. Ok ((key, value), b.1)) f e
+    bind_refused _ (byte_at bs) (λ b. known (length bs) (of_code (b.0 / 16)) >>= λ key. known (length bs) (of_code (b.0 % 16)) >>= λ value. Ok ((key, value), b.1)) f e
     (λ refused. inl (byte_err bs f refused)) (λ b read more.
     let parts = byte_is bs b read in
-    after_err _ (known (length bs) (of_code (b.0 / 16))) (λ key. known (length bs) (of_code (b.0 % 16)) >>= λ value. Ok ((key, value), b.1)) f more
+    bind_refused _ (known (length bs) (of_code (b.0 / 16))) (λ key. known (length bs) (of_code (b.0 % 16)) >>= λ value. Ok ((key, value), b.1)) f more
     (λ refused. let w = known_err (length bs) (b.0 / 16) f refused in inr (b.0, b.1, inl w.0, parts, w.1)) (λ key named later.
-    after_err _ (known (length bs) (of_code (b.0 % 16))) (λ value. Ok ((key, value), b.1)) f later
+    bind_refused _ (known (length bs) (of_code (b.0 % 16))) (λ value. Ok ((key, value), b.1)) f later
     (λ refused. let w = known_err (length bs) (b.0 % 16) f refused in inr (b.0, b.1, inr w.0, parts, w.1)) (λ value read wrong. cc)))
 
 fresh_err : (left : ℕ) (id : ℤ) (ids : List ℤ) (f : Fault) → fresh left id ids ≡ Err f → (is_among id ids ≡ true) × (f ≡ (Repeated, left))
@@ -91,13 +92,13 @@ id_err ids b k bs r f parts whole each e =
 field_err : (ids : List ℤ) (b : ℕ) (bs r : List ℕ) (f : Fault) → bs ≡ b ∷ r → b < 256 → 0 < b → AreBytes r
     → (known (length bs) (of_code (b % 16)) >>= with_kind ids (length bs) b r) ≡ Err f → FieldHeadFault ids bs f
 field_err ids b bs r f parts small least each e =
-    after_err _ (known (length bs) (of_code (b % 16))) (with_kind ids (length bs) b r) f e
+    bind_refused _ (known (length bs) (of_code (b % 16))) (with_kind ids (length bs) b r) f e
     (λ refused. let w = known_err (length bs) (b % 16) f refused in no_field_kind (b, r, (least, w.0), parts, w.1)) (λ k named more.
     let whole = low_is (length bs) b k named in
-    after_err _ (id_at (last ids) (length bs) (b / 16) r) (with_id ids (length bs) k) f more
+    bind_refused _ (id_at (last ids) (length bs) (b / 16) r) (with_id ids (length bs) k) f more
     (λ refused. id_err ids b k bs r f parts whole each refused) (λ id read later.
     let took : Took (IsIdFrom ids (b / 16) id.0) r id.1 = id_took ids (length bs) (b / 16) r id each read in
-    after_err _ (fresh (length bs) id.0 ids) (λ new. Ok (Some (new, k), id.1)) f later
+    bind_refused _ (fresh (length bs) id.0 ids) (λ new. Ok (Some (new, k), id.1)) f later
     (λ refused.
     let (among, is) = fresh_err (length bs) id.0 ids f refused in
     id_again id.0 k (b ∷ took.front) id.1 (names_field ids id.0 k b took.front small whole took.is) among (parts ∙ ap (λ more. b ∷ more) took.parts) is)
@@ -105,7 +106,7 @@ field_err ids b bs r f parts small least each e =
 
 pub field_head_err : (ids : List ℤ) (bs : List ℕ) (f : Fault) → AreBytes bs → field_head ids bs ≡ Err f → FieldHeadFault ids bs f
 field_head_err ids bs f each e =
-    after_err _ (byte_at bs) (λ b. head_from ids (length bs) b.0 b.1) f e (λ refused. no_field_head (byte_err bs f refused)) (λ b read more.
+    bind_refused _ (byte_at bs) (λ b. head_from ids (length bs) b.0 b.1) f e (λ refused. no_field_head (byte_err bs f refused)) (λ b read more.
     let byte : Took (IsByte b.0) bs b.1 = byte_took bs b each read in
     elim (chosen (b.0 == 0) (Ok (None, b.1)) (known (length bs) (of_code (b.0 % 16)) >>= with_kind ids (length bs) b.0 b.1) (Err f) more) [
       | inl w ↦ cc

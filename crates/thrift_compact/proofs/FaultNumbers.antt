@@ -6,7 +6,8 @@ use Rattle.thrift_compact.specs.Reading.{Fault, byte_at, bytes_at, varint_within
 use Rattle.thrift_compact.specs.Grammar.{IsBelow, IsSize}
 use Rattle.thrift_compact.specs.Faults.{NoByte, TooFew, Later, GoOn, VarintFault, NumberFault, SizeFault, BinaryFault, TruthFault}
 use Rattle.thrift_compact.specs.Spelled.{AreBytes}
-use Rattle.thrift_compact.proofs.Steps.{after_err, one_refusal, cond_err, chosen, below_if, not_below_if}
+use Rattle.pme_base.proofs.Chain.{bind_refused}
+use Rattle.thrift_compact.proofs.Steps.{one_refusal, cond_err, chosen, below_if, not_below_if}
 use Rattle.thrift_compact.proofs.Took.{Took}
 use Rattle.thrift_compact.proofs.TookNumbers.{IsShort, varint_took, size_took}
 
@@ -43,7 +44,7 @@ varint_err (b ∷ bs) start zero f e =
 varint_err (b ∷ bs) start (suc more) f e =
     elim (chosen (nat_lt b 128) (Ok (b, bs)) (varint_within start more bs >>= λ high. Ok (b - 128 + 128 * high.0, high.1)) (Err f) e) [
       | inl w ↦ cc
-      | inr w ↦ after_err _ (varint_within start more bs) (λ high. Ok (b - 128 + 128 * high.0, high.1)) f w.1
+      | inr w ↦ bind_refused _ (varint_within start more bs) (λ high. Ok (b - 128 + 128 * high.0, high.1)) f w.1
           (λ refused. breaks_later start more b bs f (not_below_if b 128 w.0) (varint_err bs start more f refused)) (λ high read wrong. cc)
     ]
 
@@ -61,7 +62,7 @@ out_of_range limit n bs r f large is t =
 
 pub number_err : (limit : ℕ) (bs : List ℕ) (f : Fault) → AreBytes bs → number_at limit bs ≡ Err f → NumberFault limit bs f
 number_err limit bs f each e =
-    after_err _ (varint_at bs) (λ n. if nat_lt n.0 limit then Ok (zigzag n.0, n.1) else Err (Range, length bs)) f e
+    bind_refused _ (varint_at bs) (λ n. if nat_lt n.0 limit then Ok (zigzag n.0, n.1) else Err (Range, length bs)) f e
     (λ refused. inl (varint_fault bs f refused))
     (λ n read tested.
     let (large, is) = cond_err (nat_lt n.0 limit) (zigzag n.0, n.1) (Range, length bs) f tested in
@@ -69,7 +70,7 @@ number_err limit bs f each e =
 
 pub size_err : (bs : List ℕ) (f : Fault) → AreBytes bs → size_at bs ≡ Err f → SizeFault bs f
 size_err bs f each e =
-    after_err _ (varint_at bs) (λ n. if nat_lt n.0 2147483648 then Ok n else Err (Range, length bs)) f e
+    bind_refused _ (varint_at bs) (λ n. if nat_lt n.0 2147483648 then Ok n else Err (Range, length bs)) f e
     (λ refused. inl (varint_fault bs f refused))
     (λ n read tested.
     let (large, is) = cond_err (nat_lt n.0 2147483648) n (Range, length bs) f tested in
@@ -83,16 +84,16 @@ bytes_err n bs f e =
     ]
 
 pub int8_err : (bs : List ℕ) (f : Fault) → int8_at bs ≡ Err f → NoByte bs f
-int8_err bs f e = after_err _ (byte_at bs) (λ b. Ok (signed_byte b.0, b.1)) f e (λ refused. byte_err bs f refused) (λ b read wrong. cc)
+int8_err bs f e = bind_refused _ (byte_at bs) (λ b. Ok (signed_byte b.0, b.1)) f e (λ refused. byte_err bs f refused) (λ b read wrong. cc)
 
 pub binary_err : (bs : List ℕ) (f : Fault) → AreBytes bs → binary_at bs ≡ Err f → BinaryFault bs f
 binary_err bs f each e =
-    after_err _ (size_at bs) (λ n. bytes_at n.0 n.1) f e (λ refused. inl (size_err bs f each refused))
+    bind_refused _ (size_at bs) (λ n. bytes_at n.0 n.1) f e (λ refused. inl (size_err bs f each refused))
     (λ n read more. inr (n.0, after_part (IsSize n.0) (TooFew n.0) bs n.1 f (size_took bs n each read) (bytes_err n.0 n.1 f more)))
 
 pub truth_err : (bs : List ℕ) (f : Fault) → truth_at bs ≡ Err f → TruthFault bs f
 truth_err bs f e =
-    after_err _ (byte_at bs) (λ b. if nat_lt b.0 3 then Ok (b.0 == 1, b.1) else Err (WrongType, length bs)) f e (λ refused. inl (byte_err bs f refused))
+    bind_refused _ (byte_at bs) (λ b. if nat_lt b.0 3 then Ok (b.0 == 1, b.1) else Err (WrongType, length bs)) f e (λ refused. inl (byte_err bs f refused))
     (λ b read tested.
     let (large, is) = cond_err (nat_lt b.0 3) (b.0 == 1, b.1) (WrongType, length bs) f tested in
     let least : 3 ≤ b.0 = not_below_if b.0 3 large in

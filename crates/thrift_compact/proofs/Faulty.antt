@@ -9,7 +9,8 @@ use Rattle.thrift_compact.specs.Reading.{Fault, Read, bytes_at, int8_at, int16_a
 use Rattle.thrift_compact.specs.Grammar.{IsSize, IsListHead, IsFieldHead, Spells, AllSpell, PairsSpell}
 use Rattle.thrift_compact.specs.Faults.{IsElement, Later, ElementFault, ItemsFault, ListFault, PairFault, PairsFault, MapBodyFault, MapFault, FieldsFault, DepthFault, TruthFault, no_field_head, Faults}
 use Rattle.thrift_compact.specs.Spelled.{AreBytes}
-use Rattle.thrift_compact.proofs.Steps.{after_err, one_refusal}
+use Rattle.pme_base.proofs.Chain.{bind_refused}
+use Rattle.thrift_compact.proofs.Steps.{one_refusal}
 use Rattle.thrift_compact.proofs.Took.{Took}
 use Rattle.thrift_compact.proofs.TookNumbers.{size_took}
 use Rattle.thrift_compact.proofs.HeadsAgain.{head_long}
@@ -23,7 +24,7 @@ abbrev pub Told : ℕ → Type 0
 Told room = (k : TKind) (bs : List ℕ) (f : Fault) → AreBytes bs → value room k bs ≡ Err f → Faults room k bs f
 
 truth_element : (bs : List ℕ) (f : Fault) → as_tree truth truth_at bs ≡ Err f → TruthFault bs f
-truth_element bs f e = after_err _ (truth_at bs) (λ b. Ok (truth b.0, b.1)) f e (λ refused. truth_err bs f refused) (λ b read wrong. cc)
+truth_element bs f e = bind_refused _ (truth_at bs) (λ b. Ok (truth b.0, b.1)) f e (λ refused. truth_err bs f refused) (λ b read wrong. cc)
 
 element_err : (room : ℕ) → Told room → (k : TKind) (bs : List ℕ) (f : Fault) → AreBytes bs → element (value room) k bs ≡ Err f → ElementFault (Faults room) k bs f
 element_err room told kind.True bs f each e = truth_element bs f e
@@ -39,10 +40,10 @@ one_more P Q R Faulty bs s f join t (others, rest, is, parts, fault) =
 items_err : (n room : ℕ) → Told room → (k : TKind) (bs : List ℕ) (f : Fault) → AreBytes bs → elements (element (value room) k) n bs ≡ Err f → ItemsFault room (Faults room) k n bs f
 items_err zero room told k bs f each e = cc
 items_err (suc n) room told k bs f each e =
-    after_err _ (element (value room) k bs) (λ t. elements (element (value room) k) n t.1 >>= λ ts. Ok (tree t.0 ts.0, ts.1)) f e
+    bind_refused _ (element (value room) k bs) (λ t. elements (element (value room) k) n t.1 >>= λ ts. Ok (tree t.0 ts.0, ts.1)) f e
     (λ refused. (no_trees, omega arith, ([], bs, refl, refl, element_err room told k bs f each refused))) (λ t read more.
     let one : Took (IsElement room k t.0) bs t.1 = element_took room (sound room) k bs t each read in
-    after_err _ (elements (element (value room) k) n t.1) (λ ts. Ok (tree t.0 ts.0, ts.1)) f more
+    bind_refused _ (elements (element (value room) k) n t.1) (λ ts. Ok (tree t.0 ts.0, ts.1)) f more
     (λ refused.
     let (ts, below, later) = items_err n room told k t.1 f one.rest refused in (
       tree t.0 ts,
@@ -53,7 +54,7 @@ items_err (suc n) room told k bs f each e =
 
 list_err : (room : ℕ) → Told room → (bs : List ℕ) (f : Fault) → AreBytes bs → trees_at (value room) bs ≡ Err f → ListFault room (Faults room) bs f
 list_err room told bs f each e =
-    after_err _ (list_head bs) (λ h. elements (element (value room) h.0.0) h.0.1 h.1) f e
+    bind_refused _ (list_head bs) (λ h. elements (element (value room) h.0.0) h.0.1 h.1) f e
     (λ refused. inl (list_head_err bs f each refused)) (λ h read more.
     let head : Took (IsListHead h.0.0 h.0.1) bs h.1 = list_head_took bs h each read in
     inr (h.0.0, h.0.1, after_part (IsListHead h.0.0 h.0.1) (ItemsFault room (Faults room) h.0.0 h.0.1) bs h.1 f head (items_err h.0.1 room told h.0.0 h.1 f head.rest more)))
@@ -63,10 +64,10 @@ entries_err : (n room : ℕ) → Told room → (key_kind value_kind : TKind) (bs
 entries_err zero room told key_kind value_kind bs f each e = cc
 entries_err (suc n) room told key_kind value_kind bs f each e =
     let others = λ (r : List ℕ). entries (element (value room) key_kind) (element (value room) value_kind) n r in
-    after_err _ (element (value room) key_kind bs) (λ k. element (value room) value_kind k.1 >>= λ v. others v.1 >>= λ ps. Ok (pair k.0 v.0 ps.0, ps.1)) f e
+    bind_refused _ (element (value room) key_kind bs) (λ k. element (value room) value_kind k.1 >>= λ v. others v.1 >>= λ ps. Ok (pair k.0 v.0 ps.0, ps.1)) f e
     (λ refused. (no_pairs, omega arith, ([], bs, refl, refl, inl (element_err room told key_kind bs f each refused)))) (λ k key_read more.
     let key : Took (IsElement room key_kind k.0) bs k.1 = element_took room (sound room) key_kind bs k each key_read in
-    after_err _ (element (value room) value_kind k.1) (λ v. others v.1 >>= λ ps. Ok (pair k.0 v.0 ps.0, ps.1)) f more
+    bind_refused _ (element (value room) value_kind k.1) (λ v. others v.1 >>= λ ps. Ok (pair k.0 v.0 ps.0, ps.1)) f more
     (λ refused. (
       no_pairs,
       omega arith,
@@ -82,7 +83,7 @@ entries_err (suc n) room told key_kind value_kind bs f each e =
       ),
     )) (λ v value_read later.
     let one : Took (IsElement room value_kind v.0) k.1 v.1 = element_took room (sound room) value_kind k.1 v key.rest value_read in
-    after_err _ (others v.1) (λ ps. Ok (pair k.0 v.0 ps.0, ps.1)) f later
+    bind_refused _ (others v.1) (λ ps. Ok (pair k.0 v.0 ps.0, ps.1)) f later
     (λ refused.
     let (ps, below, rest) = entries_err n room told key_kind value_kind v.1 f one.rest refused in
     let Faulty = PairFault room (Faults room) key_kind value_kind in (
@@ -100,7 +101,7 @@ map_body_err : (n room : ℕ) → Told room → (bs : List ℕ) (f : Fault) → 
 map_body_err zero room told bs f each e = cc
 map_body_err (suc n) room told bs f each e = (
   omega arith,
-  after_err _ (map_kinds bs) (λ k. entries (element (value room) k.0.0) (element (value room) k.0.1) (suc n) k.1) f e
+  bind_refused _ (map_kinds bs) (λ k. entries (element (value room) k.0.0) (element (value room) k.0.1) (suc n) k.1) f e
       (λ refused. inl (map_kinds_err bs f refused)) (λ k read more.
       let kinds : Took (KindsOfMap k.0) bs k.1 = map_kinds_took bs k each read in
       inr (k.0.0, k.0.1, after_part (KindsOfMap k.0) (PairsFault room (Faults room) (suc n) k.0.0 k.0.1) bs k.1 f kinds (entries_err (suc n) room told k.0.0 k.0.1 k.1 f kinds.rest more))),
@@ -108,7 +109,7 @@ map_body_err (suc n) room told bs f each e = (
 
 map_err : (room : ℕ) → Told room → (bs : List ℕ) (f : Fault) → AreBytes bs → pairs_at (value room) bs ≡ Err f → MapFault room (Faults room) bs f
 map_err room told bs f each e =
-    after_err _ (size_at bs) (λ n. pairs_from (value room) n.0 n.1) f e
+    bind_refused _ (size_at bs) (λ n. pairs_from (value room) n.0 n.1) f e
     (λ refused. inl (size_err bs f each refused)) (λ n read more.
     let size : Took (IsSize n.0) bs n.1 = size_took bs n each read in
     let (some, fault) = map_body_err n.0 room told n.1 f size.rest more in
@@ -124,11 +125,11 @@ after_head_err : (room n : ℕ) → Told room → FieldsTold room n → (ids : L
     → length bs ≤ suc n → after_head (value room) (fields (value room) n) ids o s ≡ Err f → SomeFields room ids bs f
 after_head_err room n told others ids None bs s f head enough e = cc
 after_head_err room n told others ids (Some h) bs s f head enough e =
-    after_err _ (value room h.1 s) (λ t. fields (value room) n (ids ++ h.0 ∷ []) t.1 >>= λ fs. Ok (field h.0 t.0 fs.0, fs.1)) f e
+    bind_refused _ (value room h.1 s) (λ t. fields (value room) n (ids ++ h.0 ∷ []) t.1 >>= λ fs. Ok (field h.0 t.0 fs.0, fs.1)) f e
     (λ refused. (no_fields, inr (h.0, h.1, after_part (IsFieldHead ids h.0 h.1) (Faults room h.1) bs s f head (told h.1 s f head.rest refused)))) (λ t read more.
     let one : Took (Spells room h.1 t.0) s t.1 = sound room h.1 s t head.rest read in
     let shorter : length t.1 ≤ n = omega (arith, enough, ap length head.parts, ap length one.parts, length-append head.front s, length-append one.front t.1, head_long ids h.0 h.1 head.front head.is) in
-    after_err _ (fields (value room) n (ids ++ h.0 ∷ []) t.1) (λ fs. Ok (field h.0 t.0 fs.0, fs.1)) f more
+    bind_refused _ (fields (value room) n (ids ++ h.0 ∷ []) t.1) (λ fs. Ok (field h.0 t.0 fs.0, fs.1)) f more
     (λ refused.
     let (fs, fault) = others (ids ++ h.0 ∷ []) t.1 f one.rest shorter refused in
     let Rest = FieldsFault room (Faults room) (ids ++ h.0 ∷ []) fs in
@@ -142,7 +143,7 @@ no_byte_left (b ∷ bs) h = absurd (omega arith)
 fields_err : (n room : ℕ) → Told room → FieldsTold room n
 fields_err zero room told ids bs f each enough e = (no_fields, inl (no_field_head (no_byte_left bs enough, one_refusal _ (End, 0) f refl e)))
 fields_err (suc n) room told ids bs f each enough e =
-    after_err _ (field_head ids bs) (λ h. after_head (value room) (fields (value room) n) ids h.0 h.1) f e
+    bind_refused _ (field_head ids bs) (λ h. after_head (value room) (fields (value room) n) ids h.0 h.1) f e
     (λ refused. (no_fields, inl (field_head_err ids bs f each refused))) (λ h read more.
     after_head_err room n told (fields_err n room told) ids h.0 bs h.1 f (field_head_took ids bs h each read) enough more)
 
@@ -151,7 +152,7 @@ deep_err [] f r is e = inl (refl, one_refusal r (End, 0) f (sym is) e)
 deep_err (b ∷ bs) f r is e = inr (b, bs, tt, refl, one_refusal r (Depth, suc (length bs)) f (sym is) e)
 
 part_err : {A : Type 0} (make : A → Tree) (part : Read A) (G : Type 0) (bs : List ℕ) (f : Fault) → (part bs ≡ Err f → G) → as_tree make part bs ≡ Err f → G
-part_err make part G bs f fault e = after_err G (part bs) (λ a. Ok (make a.0, a.1)) f e fault (λ a read wrong. cc)
+part_err make part G bs f fault e = bind_refused G (part bs) (λ a. Ok (make a.0, a.1)) f e fault (λ a read wrong. cc)
 
 told_zero : Told zero
 told_zero kind.True bs f each e = cc

@@ -8,7 +8,8 @@ use Rattle.thrift_compact.specs.Reading.{Read, bytes_at, int8_at, int16_at, int3
 use Rattle.thrift_compact.specs.Grammar.{IsSize, IsNumber, IsTruthByte, IsListHead, IsHeadedList, IsMapBody, IsMap, IsFieldHead, Spells, AllSpell, PairsSpell, SpellsFields}
 use Rattle.thrift_compact.specs.Faults.{IsElement}
 use Rattle.thrift_compact.specs.Spelled.{AreBytes}
-use Rattle.thrift_compact.proofs.Steps.{bind_ok, after_ok}
+use Rattle.pme_base.proofs.Chain.{bind_ok}
+use Rattle.thrift_compact.proofs.Steps.{after_ok}
 use Rattle.thrift_compact.proofs.Took.{Took, took_ok, took_nothing, took_as, took_then, took_thrice}
 use Rattle.thrift_compact.proofs.TookNumbers.{AreSo, bytes_took, IsSignedByte, int8_took, number_took, size_took, IsBinary, binary_took, truth_took}
 use Rattle.thrift_compact.proofs.TookHeads.{list_head_took, KindsOfMap, map_kinds_took, IsHead, field_head_took}

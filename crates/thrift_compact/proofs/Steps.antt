@@ -4,18 +4,9 @@ use Rattle.std.proofs.lemmas.Bool.Decides.{nat_tests}
 use Rattle.pme_base.specs.Steps.{◌>>=◌}
 
 -- the value of a step that went well, and what came of it
-pub bind_ok : {S T E : Type 0} (r : Result S E) (f : S → Result T E) (t : T) → (r >>= f) ≡ Ok t → (s : S) × (r ≡ Ok s) × (f s ≡ Ok t)
-bind_ok (Ok s) f t e = (s, refl, e)
-bind_ok (Err x) f t e = cc
-
 pub after_ok : {S T E : Type 0} (G : Type 0) (r : Result S E) (f : S → Result T E) (t : T) → (r >>= f) ≡ Ok t → ((s : S) → r ≡ Ok s → f s ≡ Ok t → G) → G
 after_ok G (Ok s) f t e more = more s refl e
 after_ok G (Err x) f t e more = cc
-
--- the same of a step that failed, or after which the next one failed
-pub after_err : {S T E : Type 0} (G : Type 0) (r : Result S E) (f : S → Result T E) (d : E) → (r >>= f) ≡ Err d → (r ≡ Err d → G) → ((s : S) → r ≡ Ok s → f s ≡ Err d → G) → G
-after_err G (Ok s) f d e here later = later s refl e
-after_err G (Err x) f d e here later = here cc
 
 pub one_refusal : {S E : Type 0} (r : Result S E) (x y : E) → r ≡ Err x → r ≡ Err y → y ≡ x
 one_refusal r x y e f = cc
@@ -37,11 +28,7 @@ not_below a b h = grind (arith, nat_tests)
 pub other : (a b : ℕ) → (a ≡ b → ⊥) → (a == b) ≡ false
 other a b h = grind (arith, nat_tests)
 
--- what a test that went well tells, and a choice
-pub cond_ok : {T E : Type 0} (b : Bool) (x t : T) (y : E) → (if b then Ok x else Err y) ≡ Ok t → (b ≡ true) × (x ≡ t)
-cond_ok true x t y e = (refl, cc)
-cond_ok false x t y e = cc
-
+-- what a choice tells
 pub chosen : {X : Type 0} (b : Bool) (x y t : X) → (if b then x else y) ≡ t → ((b ≡ true) × (x ≡ t)) ⊎ ((b ≡ false) × (y ≡ t))
 chosen true x y t e = inl (refl, e)
 chosen false x y t e = inr (refl, e)

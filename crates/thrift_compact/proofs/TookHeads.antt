@@ -8,7 +8,8 @@ use Rattle.thrift_compact.specs.Kinds.{code, of_code}
 use Rattle.thrift_compact.specs.Reading.{Fault, byte_at, known, list_head, list_size, size_at, map_kinds, field_head, head_from, id_at, int16_at, fresh, last, small_id, is_among}
 use Rattle.thrift_compact.specs.Grammar.{IsSize, IsNumber, IsListHead, NamesField, IsFieldHead}
 use Rattle.thrift_compact.specs.Spelled.{AreBytes}
-use Rattle.thrift_compact.proofs.Steps.{bind_ok, after_ok, cond_ok, chosen, equal_if, other_if}
+use Rattle.pme_base.proofs.Chain.{bind_ok, tested}
+use Rattle.thrift_compact.proofs.Steps.{after_ok, chosen, equal_if, other_if}
 use Rattle.thrift_compact.proofs.Took.{Took, took_ok, took_nothing, took_as, took_then, IsByte, byte_took}
 use Rattle.thrift_compact.proofs.TookNumbers.{size_took, number_took}
 
@@ -92,7 +93,7 @@ id_took ids left n bs x each e =
     elim (chosen (n == 0) (int16_at bs) (if small_id (last ids +ℤ pos n) then Ok (last ids +ℤ pos n, bs) else Err (Range, left)) (Ok x) e) [
       | inl w ↦ took_as (IsNumber 65536 x.0) (IsIdFrom ids n x.0) bs x.1 (λ front s. inl (equal_if n 0 w.0, s)) (number_took 65536 bs x each w.1)
       | inr w ↦
-          let (small, same) = cond_ok (small_id (last ids +ℤ pos n)) (last ids +ℤ pos n, bs) x (Range, left) w.1 in
+          let (small, same) = tested (small_id (last ids +ℤ pos n)) (last ids +ℤ pos n, bs) x (Range, left) w.1 in
           took_ok (IsIdFrom ids n) bs (last ids +ℤ pos n, bs) x (ap Ok same)
           (took_nothing (IsIdFrom ids n (last ids +ℤ pos n)) bs each (inr (other_if n 0 w.0, refl, small, refl)))
     ]

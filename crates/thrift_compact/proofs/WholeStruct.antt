@@ -9,7 +9,8 @@ use Rattle.thrift_compact.specs.Reading.{Fault, nest, value, whole_struct}
 use Rattle.thrift_compact.specs.Grammar.{Spells}
 use Rattle.thrift_compact.specs.Faults.{Faults, HasFault}
 use Rattle.thrift_compact.specs.Spelled.{AreBytes}
-use Rattle.thrift_compact.proofs.Steps.{after_ok, after_err}
+use Rattle.pme_base.proofs.Chain.{bind_refused}
+use Rattle.thrift_compact.proofs.Steps.{after_ok}
 use Rattle.thrift_compact.proofs.Took.{done}
 use Rattle.thrift_compact.proofs.Again.{value_again}
 use Rattle.thrift_compact.proofs.Sound.{sound}
@@ -61,7 +62,7 @@ struct_refused room bytes f each refused = told room kind.Struct bytes f each (a
 
 pub struct_faulty : (room : ℕ) (bytes : List ℕ) (f : Fault) → Faults room kind.Struct bytes f → (nest room).fields bytes ≡ Err f
 struct_faulty room bytes f fault =
-    after_err _ ((nest room).fields bytes) (λ x. Ok (struct x.0, x.1)) f (refuses room kind.Struct bytes f fault) (λ refused. refused) (λ x read wrong. cc)
+    bind_refused _ ((nest room).fields bytes) (λ x. Ok (struct x.0, x.1)) f (refuses room kind.Struct bytes f fault) (λ refused. refused) (λ x read wrong. cc)
 
 pub whole_refused : (bytes : List ℕ) (why : ThriftFault) (left : ℕ) → AreBytes bytes → whole_struct bytes ≡ Err (why, left) → HasFault bytes why (length bytes - left)
 whole_refused bytes why left each refused =

@@ -7,6 +7,7 @@ use Rattle.thrift_compact.specs.declared.kind.TKind.{TKind}
 use Rattle.thrift_compact.specs.declared.refusal.ThriftRefusal.{ThriftRefusal}
 use Rattle.thrift_compact.specs.declared.refusal.ThriftRefusal.TheVariants.{Bad, OutOfMemory}
 use Rattle.pme_base.specs.Steps.{◌>>=◌}
+pub use Rattle.pme_base.proofs.Chain.{bind_ok, bind_at, bind_err, ok_same, err_same}
 use Rattle.thrift_compact.specs.Reading.{Fault, byte_at, nest}
 
 -- a stop is the fault of the reading; want of memory may come at any step
@@ -49,33 +50,16 @@ abbrev pub refusal_of : ℕ → Stop → ThriftRefusal
 refusal_of size (stops.Fault why left) = Bad (size - left) why
 refusal_of size stops.Memory = OutOfMemory
 
--- a sequence of two steps, by what it answers
-pub bind_ok : {A B E : Type 0} (r : Result A E) (next : A → Result B E) (y : B) → (r >>= next) ≡ Ok y → (x : A) × (r ≡ Ok x) × (next x ≡ Ok y)
-bind_ok (Ok x) next y e = (x, refl, e)
-bind_ok (Err f) next y e = absurd cc
-
-pub bind_at : {A B E : Type 0} (r : Result A E) (next : A → Result B E) (x : A) → r ≡ Ok x → (r >>= next) ≡ next x
-bind_at r next x e = rw e
-
-pub bind_err : {A B E : Type 0} (r : Result A E) (next : A → Result B E) (f : E) → r ≡ Err f → (r >>= next) ≡ Err f
-bind_err r next f e = rw e
-
 -- a step that fails where a part of it fails
 pub fails_on : {X Y : Type 0} (stop : Stop) (part : Result X Fault) (whole : Result Y Fault) → ((f : Fault) → part ≡ Err f → whole ≡ Err f) → Fails stop part → Fails stop whole
 fails_on stops.Memory part whole leads fails = tt
 fails_on (stops.Fault why left) part whole leads fails = leads (why, left) fails
 
-pub ok_is : {A E : Type 0} (x y : A) → ◌≡◌ {A = Result A E} (Ok x) (Ok y) → x ≡ y
-ok_is x y e = cc
-
-pub err_is : {A E : Type 0} (x y : E) → ◌≡◌ {A = Result A E} (Err x) (Err y) → x ≡ y
-err_is x y e = cc
-
 -- where a byte was read it stands in front
 pub byte_is : (bs : List ℕ) (b : ℕ) (rest : List ℕ) → byte_at bs ≡ Ok (b, rest) → bs ≡ b ∷ rest
 byte_is [] b rest e = absurd cc
 byte_is (x ∷ xs) b rest e =
-    let same = ok_is (x, xs) (b, rest) e in
+    let same = ok_same (x, xs) (b, rest) e in
     let first : x ≡ b = ap (λ p. p.0) same in
     let others : xs ≡ rest = ap (λ p. p.1) same in
     cc
@@ -83,10 +67,10 @@ byte_is (x ∷ xs) b rest e =
 -- where a value was passed it is read, and where it wasn't it has the fault
 pub passed_ok : {X : Type 0} (read : Result (X × List ℕ) Fault) (rest : List ℕ) → passed read ≡ Ok (tt, rest) → (x : X) × (read ≡ Ok (x, rest))
 passed_ok (Ok x) rest e =
-    let same : x.1 ≡ rest = ap (λ p. p.1) (ok_is (tt, x.1) (tt, rest) e) in
+    let same : x.1 ≡ rest = ap (λ p. p.1) (ok_same (tt, x.1) (tt, rest) e) in
     (x.0, ap (λ r. Ok (x.0, r)) same)
 passed_ok (Err f) rest e = absurd cc
 
 pub passed_err : {X : Type 0} (read : Result (X × List ℕ) Fault) (f : Fault) → passed read ≡ Err f → read ≡ Err f
 passed_err (Ok x) f e = absurd cc
-passed_err (Err g) f e = ap (λ h. Err h) (err_is g f e)
+passed_err (Err g) f e = ap (λ h. Err h) (err_same g f e)

@@ -7,7 +7,7 @@ use Rattle.pme_base.specs.declared.refusal.ThriftFault.TheVariants.{End}
 use Rattle.pme_base.specs.Steps.{◌>>=◌}
 use Rattle.thrift_compact.specs.declared.kind.TKind.{TKind}
 use Rattle.thrift_compact.specs.declared.kind.TKind.TheVariants as kind
-use Rattle.thrift_compact.specs.Answers.{mapped, ok_is, err_is, bind_ok}
+use Rattle.thrift_compact.specs.Answers.{mapped, ok_same, err_same, bind_ok}
 use Rattle.thrift_compact.specs.Reading.{Fault, Read, elements, entries, fields, after_head, field_head, as_tree, int8_at, int16_at, int32_at, int64_at, bytes_at, binary_at, nest}
 use Rattle.thrift_compact.specs.Reading.{value as value_at}
 use Rattle.thrift_compact.specs.Tree.{Tree, truth, int8, int16, int32, int64, double, binary, list, set, map, struct, kind_of_tree, Trees, no_trees, tree, Pairs, no_pairs, pair, Fields, no_fields, field}
@@ -73,7 +73,7 @@ fields_begin make value bs = record { turns = length bs; enough = omega arith; r
 
 -- one more turn is there where a head was read, and at no turn no byte is left
 fields_turn : (value : TKind → Read Tree) (turns : ℕ) (ids : List ℤ) (bs : List ℕ) → length bs ≤ turns → (f : Fault) → field_head ids bs ≡ Err f → fields value turns ids bs ≡ Err f
-fields_turn value zero ids [] enough f e = ap (λ g. Err g) (err_is (End, 0) f e)
+fields_turn value zero ids [] enough f e = ap (λ g. Err g) (err_same (End, 0) f e)
 fields_turn value zero ids (b ∷ bs) enough f e = absurd (omega arith)
 fields_turn value (suc turns) ids bs enough f e = rw e refl
 
@@ -118,12 +118,12 @@ fields_same f g whole value ids bs same now = record {
 part_kind : {A : Type 0} (make : A → Tree) (part : Read A) (k : TKind) (bs : List ℕ) (t : Tree) (r : List ℕ) → ((a : A) → kind_of_tree (make a) ≡ k) → as_tree make part bs ≡ Ok (t, r) → kind_of_tree t ≡ k
 part_kind make part k bs t r same e =
     let x = bind_ok (part bs) (λ a. Ok (make a.0, a.1)) (t, r) e in
-    let made : make x.0.0 ≡ t = ap (λ p. p.0) (ok_is (make x.0.0, x.0.1) (t, r) x.2) in
+    let made : make x.0.0 ≡ t = ap (λ p. p.0) (ok_same (make x.0.0, x.0.1) (t, r) x.2) in
     ap kind_of_tree (sym made) ∙ same x.0.0
 
 truth_kind : (b : Bool) (k : TKind) (bs : List ℕ) (t : Tree) (r : List ℕ) → kind_of_tree (truth b) ≡ k → ◌≡◌ {A = Result (Tree × List ℕ) Fault} (Ok (truth b, bs)) (Ok (t, r)) → kind_of_tree t ≡ k
 truth_kind b k bs t r same e =
-    let made : truth b ≡ t = ap (λ p. p.0) (ok_is (truth b, bs) (t, r) e) in
+    let made : truth b ≡ t = ap (λ p. p.0) (ok_same (truth b, bs) (t, r) e) in
     ap kind_of_tree (sym made) ∙ same
 
 pub value_kind : (room : ℕ) (k : TKind) (bs : List ℕ) (t : Tree) (r : List ℕ) → value_at room k bs ≡ Ok (t, r) → kind_of_tree t ≡ k

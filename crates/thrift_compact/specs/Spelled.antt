@@ -1,15 +1,12 @@
 -- The laws between the grammar and the reading: a value is read exactly where the bytes begin with a spelling of it, and
 -- refused with a fault exactly where they have that fault.
 use Rattle.std.specs.Prelude.{◌≡◌, ◌⊎◌, ℕ, ◌<◌, ◌≤◌, List, ◌++◌, length, slice_index, Ok, Err}
+pub use Rattle.pme_base.specs.Outside.{AreBytes}
 use Rattle.thrift_compact.specs.declared.kind.TKind.{TKind}
 use Rattle.thrift_compact.specs.Tree.{Tree}
 use Rattle.thrift_compact.specs.Reading.{Fault, value}
 use Rattle.thrift_compact.specs.Faults.{Faults}
 use Rattle.thrift_compact.specs.Grammar.{Spells}
-
--- each item is a byte
-abbrev pub AreBytes : List ℕ → Type 0
-AreBytes bytes = (i : ℕ) → slice_index bytes i < 256
 
 -- what is spelled is read, whatever follows it
 abbrev pub SpelledIsRead : Type 0
