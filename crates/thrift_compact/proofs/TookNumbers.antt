@@ -64,15 +64,15 @@ short_below limit n bs small s = record { spelled = s.spelled; short = omega (ar
 
 pub number_took : (limit : ℕ) (bs : List ℕ) (x : ℤ × List ℕ) → AreBytes bs → number_at limit bs ≡ Ok x → Took (IsNumber limit x.0) bs x.1
 number_took limit bs x each e =
-    let (n, read, tested) = bind_ok (varint_at bs) (λ n. if nat_lt n.0 limit then Ok (zigzag n.0, n.1) else Err (Range, length bs)) x e in
-    let (small, same) = tested (nat_lt n.0 limit) (zigzag n.0, n.1) x (Range, length bs) tested in
+    let (n, read, held) = bind_ok (varint_at bs) (λ n. if nat_lt n.0 limit then Ok (zigzag n.0, n.1) else Err (Range, length bs)) x e in
+    let (small, same) = tested (nat_lt n.0 limit) (zigzag n.0, n.1) x (Range, length bs) held in
     took_ok (IsNumber limit) bs (zigzag n.0, n.1) x (ap Ok same)
     (took_as (IsShort 9 n.0) (IsNumber limit (zigzag n.0)) bs n.1 (λ front s. (n.0, short_below limit n.0 front (below_if n.0 limit small) s, refl)) (varint_took bs (length bs) 9 n each read))
 
 pub size_took : (bs : List ℕ) (x : ℕ × List ℕ) → AreBytes bs → size_at bs ≡ Ok x → Took (IsSize x.0) bs x.1
 size_took bs x each e =
-    let (n, read, tested) = bind_ok (varint_at bs) (λ n. if nat_lt n.0 2147483648 then Ok n else Err (Range, length bs)) x e in
-    let (small, same) = tested (nat_lt n.0 2147483648) n x (Range, length bs) tested in
+    let (n, read, held) = bind_ok (varint_at bs) (λ n. if nat_lt n.0 2147483648 then Ok n else Err (Range, length bs)) x e in
+    let (small, same) = tested (nat_lt n.0 2147483648) n x (Range, length bs) held in
     took_ok IsSize bs n x (ap Ok same)
     (took_as (IsShort 9 n.0) (IsSize n.0) bs n.1 (λ front s. short_below 2147483648 n.0 front (below_if n.0 2147483648 small) s) (varint_took bs (length bs) 9 n each read))
 
@@ -123,8 +123,8 @@ is_truth (suc (suc (suc n))) small = absurd (omega arith)
 
 pub truth_took : (bs : List ℕ) (x : Bool × List ℕ) → AreBytes bs → truth_at bs ≡ Ok x → Took (IsTruthByte x.0) bs x.1
 truth_took bs x each e =
-    let (b, read, tested) = bind_ok (byte_at bs) (λ b. if nat_lt b.0 3 then Ok (b.0 == 1, b.1) else Err (WrongType, length bs)) x e in
-    let (small, same) = tested (nat_lt b.0 3) (b.0 == 1, b.1) x (WrongType, length bs) tested in
+    let (b, read, held) = bind_ok (byte_at bs) (λ b. if nat_lt b.0 3 then Ok (b.0 == 1, b.1) else Err (WrongType, length bs)) x e in
+    let (small, same) = tested (nat_lt b.0 3) (b.0 == 1, b.1) x (WrongType, length bs) held in
     took_ok IsTruthByte bs (b.0 == 1, b.1) x (ap Ok same)
     (took_as (IsByte b.0) (IsTruthByte (b.0 == 1)) bs b.1
     (λ front p. subst (λ (f : List ℕ). IsTruthByte (b.0 == 1) f) (sym p.0) (is_truth b.0 (below_if b.0 3 small))) (byte_took bs b each read))
