@@ -1,5 +1,5 @@
 -- What comes of opening a module: its plaintext, or the refusal.
-use Rattle.std.specs.Prelude.{◌≡◌, ℕ, ◌+◌, ◌≤◌, ◌<◌, ◌↔◌, Bool, true, if◌then◌else◌, List, [], ◌++◌, length, take, drop, replicate, slice_index, Result, Ok, Err}
+use Rattle.std.specs.Prelude.{◌≡◌, ℕ, ◌+◌, ◌≤◌, ◌↔◌, Bool, true, if◌then◌else◌, List, [], ◌++◌, length, take, drop, replicate, Result, Ok, Err}
 use Rattle.std.specs.Str.{bytes_eq}
 use Rattle.gcm_seal.specs.Gcm.{gctr, tag_of}
 use Rattle.pme_base.specs.declared.place.Place.{Place}

@@ -1,5 +1,5 @@
 -- Steps on a draft one after another, and the steps of a loop, as far as the draft is told.
-use Rattle.std.proofs.Common.{◌≡◌, ℕ, zero, suc, ◌+◌, ◌-◌, ◌<◌, refl, sym, ap, ◌∙◌, arith, add-one, Option, Some, None, option_map, Result, Ok, Err}
+use Rattle.std.proofs.Common.{◌≡◌, ℕ, suc, ◌+◌, ◌-◌, ◌<◌, refl, ap, ◌∙◌, arith, Option, Some, None, option_map, Result, Ok, Err}
 use Rattle.pme_base.specs.declared.refusal.Refusal.{Refusal}
 use Rattle.pme_base.specs.Steps.{◌>>=◌}
 use Rattle.pme_base.specs.Drafts.{chain, each}

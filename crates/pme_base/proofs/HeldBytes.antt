@@ -1,8 +1,7 @@
 -- Lists of bytes: their parts and what is put together of them, and files that hold bytes.
-use Rattle.std.proofs.Common.{◌≡◌, ℕ, zero, suc, ◌+◌, ◌<◌, Bool, true, false, cond, List, [], ◌∷◌, ◌++◌, slice_index, Option, Some, None, if◌then◌else◌, arith}
+use Rattle.std.proofs.Common.{◌≡◌, ℕ, zero, suc, ◌<◌, Bool, true, false, cond, List, [], ◌∷◌, ◌++◌, slice_index, Option, Some, None, if◌then◌else◌, arith}
 use Rattle.std.specs.FinMap.{get, insert, from_entries, get-insert, get-from_entries}
-use Rattle.std.specs.Ordering.{nat_cmp}
-use Rattle.std.specs.Cmp.Lexicographic.{slice_cmp, nat_list_cmp_total}
+use Rattle.std.specs.Cmp.Lexicographic.{nat_list_cmp_total}
 use Rattle.pme_base.specs.Outside.{Published, AreBytes, HoldBytes}
 
 at_front : (x : ℕ) (xs : List ℕ) (i : ℕ) → x < 256 → AreBytes xs → slice_index (x ∷ xs) i < 256

@@ -1,7 +1,6 @@
 -- Writing as steps on a draft, which is what has been made so far: a step gives the next draft or the first refusal.
 -- A contract has the draft before and after a call as options, with nothing where files or draws aren't told.
-use Rattle.std.specs.Prelude.{◌≡◌, ℕ, zero, suc, ◌+◌, ◌≤◌, false, Option, option_map, Result, Ok, Err, OnOk, IfOk, IfErr}
-use Rattle.pme_base.specs.declared.refusal.Cause.{Cause}
+use Rattle.std.specs.Prelude.{◌≡◌, ℕ, zero, suc, ◌+◌, false, Option, option_map, Result, Ok, Err, OnOk, IfOk, IfErr}
 use Rattle.pme_base.specs.declared.refusal.Refusal.{Refusal}
 use Rattle.pme_base.specs.Refusals.{is_free}
 use Rattle.pme_base.specs.Steps.{◌>>=◌}

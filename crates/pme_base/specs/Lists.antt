@@ -1,5 +1,5 @@
 -- Lists whose items are made by a step that may refuse.
-use Rattle.std.specs.Prelude.{List, [], ◌∷◌, ◌++◌, Result, Ok, Err}
+use Rattle.std.specs.Prelude.{List, [], ◌∷◌, ◌++◌, Result, Ok}
 use Rattle.pme_base.specs.Steps.{◌>>=◌}
 
 -- the step of each item in order; the first refusal ends it

@@ -1,5 +1,5 @@
 -- What a step of the code answers, beside the reading that defines it; and small lemmas about steps.
-use Rattle.std.specs.Prelude.{◌≡◌, ℕ, suc, ◌-◌, ℤ, List, [], ◌∷◌, ◌++◌, Option, Some, None, Result, Ok, Err, refl}
+use Rattle.std.specs.Prelude.{◌≡◌, ℕ, suc, ◌-◌, ℤ, List, [], ◌∷◌, ◌++◌, Option, Some, None, Result, Ok, Err}
 use Rattle.std.proofs.Common.{ap}
 use Rattle.thrift_compact.specs.declared.cursor.Stop.{Stop}
 use Rattle.thrift_compact.specs.declared.cursor.Stop.TheVariants as stops

@@ -1,6 +1,6 @@
 -- The laws between the grammar and the reading: a value is read exactly where the bytes begin with a spelling of it, and
 -- refused with a fault exactly where they have that fault.
-use Rattle.std.specs.Prelude.{◌≡◌, ◌⊎◌, ℕ, ◌<◌, ◌≤◌, List, ◌++◌, length, slice_index, Ok, Err}
+use Rattle.std.specs.Prelude.{◌≡◌, ◌⊎◌, ℕ, ◌≤◌, List, ◌++◌, length, Ok, Err}
 pub use Rattle.pme_base.specs.Outside.{AreBytes}
 use Rattle.thrift_compact.specs.declared.kind.TKind.{TKind}
 use Rattle.thrift_compact.specs.Tree.{Tree}
