@@ -4,3 +4,4 @@ pub use Rattle.pme_base.specs.Steps
 pub mod Frames
 pub mod Modules
 pub mod Opening
+pub mod Pieces

@@ -11,6 +11,8 @@ mod keys;
 #[cfg(test)]
 mod modules;
 #[cfg(test)]
+mod pieces;
+#[cfg(test)]
 mod products;
 #[cfg(test)]
 mod sealing;

@@ -7,8 +7,9 @@ ghost use Rattle.gcm_seal.specs.Gcm.{counter_block, keystream_byte, gctr, hash_k
 use aes_block::AesKey;
 use std::simd::prelude::*;
 
-// Counter mode over the buffer, from the counter `first`.
-pub(crate) fn gctr_in_place(key: &AesKey, nonce: &[u8; 12], first: u32, buffer: &mut [u8])
+/// Counter mode over the buffer, in place, from the counter `first` (GCTR of SP 800-38D, section 6.5). The last counter
+/// that is used lies below 2^32.
+pub fn gctr_in_place(key: &AesKey, nonce: &[u8; 12], first: u32, buffer: &mut [u8])
     requires { first + (length buffer.old + 15) / 16 ≤ 2 ^ 32 }
     ensures { buffer.new ≡ gctr key.now nonce.now first buffer.old }
 {

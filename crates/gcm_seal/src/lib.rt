@@ -2,7 +2,7 @@
 // counter mode alone. No memory is taken. The cipher is in constant time; the hash looks its products up in a table.
 #![tactic(auto)]
 
-ghost use Rattle.std.specs.Prelude.{◌≡◌, ℕ, List, [], ◌++◌, length, replicate};
+ghost use Rattle.std.specs.Prelude.{◌≡◌, ℕ, ◌+◌, ◌*◌, List, [], ◌++◌, length, replicate};
 ghost use Rattle.gcm_seal.specs.Gcm.{gctr, tag_of};
 ghost use Rattle.gcm_seal.specs.Vectors.{zero_key, zero_nonce, tag_1, ciphertext_2, tag_2};
 
@@ -10,6 +10,7 @@ mod counter_mode;
 mod hasher;
 mod sealed;
 
+pub use counter_mode::gctr_in_place;
 pub use hasher::Hasher;
 pub use sealed::{BadTag, ctr_in_place, open_in_place, seal_in_place, sign, tag};
 
@@ -20,9 +21,12 @@ pub fn standard_vectors()
     ensures tag_2 { tag_of zero_key zero_nonce [] ciphertext_2 ≡ tag_2 }
 {}
 
-/// The laws that a text opens to what was sealed, and that tags have 16 bytes.
+/// The laws that a text opens to what was sealed, that counter mode of a text cut between two blocks is that of its two
+/// parts, and that tags have 16 bytes.
 pub fn laws()
     ensures undone { (key nonce text : List ℕ) → (c : ℕ) → gctr key nonce c (gctr key nonce c text) ≡ text }
+    ensures joined { (key nonce front back : List ℕ) → (c n : ℕ) → length front ≡ 16 * n
+        → gctr key nonce c (front ++ back) ≡ gctr key nonce c front ++ gctr key nonce (c + n) back }
     ensures same_length { (key nonce text : List ℕ) → (c : ℕ) → length (gctr key nonce c text) ≡ length text }
     ensures tag_length { (key nonce aad text : List ℕ) → length (tag_of key nonce aad text) ≡ 16 }
 {}
