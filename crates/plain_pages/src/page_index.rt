@@ -20,7 +20,8 @@ use pme_base::{OutOfMemory, PagePart, Place, Refusal};
 use std::alloc::Global;
 
 /// Where the cells of a page stand: which are null, and at which places the values of the others are. Values of one
-/// size take no memory, others four bytes each (byte arrays in a body of 4 GiB or more eight), and nulls cost four bytes for each cell of an OPTIONAL column.
+/// size take no memory, others four bytes each (byte arrays eight in a body of 4 GiB or more), and nulls cost four
+/// bytes for each cell of an OPTIONAL column.
 #[derive(Debug, Drop)]
 pub struct PageIndex {
     pub(crate) kind: ColumnKind,

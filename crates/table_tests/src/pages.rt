@@ -30,11 +30,7 @@ fn spec_of(alloc: Global, kind: ColumnKind, optional: bool) -> ColumnSpec {
 }
 
 /// A column without cells, by the name of `a`.
-fn column_of(
-    alloc: Global,
-    kind: ColumnKind,
-    optional: bool,
-) -> Result<TableColumn, OutOfMemory>
+fn column_of(alloc: Global, kind: ColumnKind, optional: bool) -> Result<TableColumn, OutOfMemory>
     requires { HasWord kind false }
     ensures kind { IfOk result (λ column. column.spec.kind ≡ kind) }
     ensures optional { IfOk result (λ column. column.spec.optional ≡ optional) }
