@@ -1,9 +1,10 @@
 -- Levels that are all 1, byte arrays one behind the other, and values of one size.
-use Rattle.std.proofs.Common.{◌≡◌, ℕ, ℤ, zero, suc, ◌+◌, ◌≤◌, nat_le, Bool, true, false, if◌then◌else◌, List, [], ◌∷◌, ◌++◌, take, drop, map, length, replicate, None, Some, refl, sym, ap, ◌∙◌, arith, append_assoc, length-drop}
+use Rattle.std.proofs.Common.{◌≡◌, ℕ, ℤ, zero, suc, ◌+◌, ◌*◌, ◌≤◌, nat_le, min, Bool, true, false, if◌then◌else◌, List, [], ◌∷◌, ◌++◌, take, drop, map, length, replicate, None, Some, refl, sym, ap, ◌∙◌, arith, append_assoc, length-drop}
 use Rattle.std.specs.Int.{w64, cast_signed, from_le_bytes}
 use Rattle.std.proofs.lemmas.List.{length-map}
 use Rattle.parquet_types.specs.declared.column.ColumnKind.{ColumnKind}
 use Rattle.parquet_types.specs.declared.column.ColumnKind.TheVariants.{Boolean, Int32, Int64, Int96, Float, Double, ByteArray, Fixed}
+use Rattle.plain_pages.proofs.PlaceLists.{stepped-within}
 use Rattle.plain_pages.specs.Cells.{Cell, int64}
 use Rattle.plain_pages.specs.Plain.{cell_at, places, next_place, place_of_byte, fixed_size}
 use Rattle.plain_pages.specs.PlacesInside.{even, stepped}
@@ -79,6 +80,15 @@ places-stepped Float size n p body e = let is : 4 ≡ size = cc in rw (← is) (
 places-stepped Double size n p body e = let is : 8 ≡ size = cc in rw (← is) (places_by Double 8 _ n p body (λ q. refl) refl)
 places-stepped (Fixed m) size n p body e = let is : m ≡ size = cc in rw (← is) (places_by (Fixed m) m _ n p body (λ q. refl) refl)
 places-stepped ByteArray size n p body e = absurd (cc)
+
+-- of the bytes that hold booleans, no more count than there are values
+pub bits_within : (kind : ColumnKind) (size count start bytes : ℕ) → kind ≡ Boolean → Some size ≡ fixed_size kind
+    → stepped size (8 * min bytes (start + count)) count (8 * start) ≡ stepped size (place_of_byte kind bytes) count (place_of_byte kind start)
+bits_within Boolean size count start bytes is e =
+    let one : size ≡ 1 = cc in
+    let room : 8 * min bytes (start + count) ≡ min (8 * bytes) (8 * (start + count)) = omega arith in
+    rw (one, room) (stepped-within count 1 (8 * bytes) (8 * (start + count)) (8 * start) (omega arith))
+bits_within _ size count start bytes is e = cc is
 
 -- ---- one value
 pub int64_there : (place : ℕ) (body bytes : List ℕ) (n : ℤ) → 8 ≤ length (drop place body) → bytes ≡ take 8 (drop place body)

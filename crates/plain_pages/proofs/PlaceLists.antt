@@ -1,5 +1,6 @@
 -- Places at one distance from each to the next.
-use Rattle.std.proofs.Common.{◌≡◌, ℕ, zero, suc, ◌+◌, ◌-◌, ◌*◌, ◌<◌, ◌≤◌, nat_le, true, false, min, ◌∷◌, map, length, None, Some, refl, ap, ◌∙◌, arith}
+use Rattle.std.proofs.Common.{◌≡◌, ℕ, zero, suc, ◌+◌, ◌-◌, ◌*◌, ◌<◌, ◌≤◌, nat_le, true, false, min, ◌∷◌, map, length, None, Some, [], refl, ap, ◌∙◌, arith}
+use Rattle.std.specs.Prelude.{if◌then◌else◌}
 use Rattle.std.specs.List.{slice_get}
 use Rattle.std.specs.Option.{option_map}
 use Rattle.std.proofs.lemmas.List.{length-map}
@@ -54,3 +55,11 @@ stepped-same zero room place inside = refl
 stepped-same (suc n) room place inside =
     let e : place + 0 ≡ place = omega arith in
     rw (e, le_true place room inside) (ap (λ ps. place ∷ ps) (stepped-same n room place inside))
+
+-- no more of the room counts than the values need
+pub stepped-within : (n size room limit place : ℕ) → place + size * n ≤ limit → stepped size (min room limit) n place ≡ stepped size room n place
+stepped-within zero size room limit place h = refl
+stepped-within (suc n) size room limit place h =
+    let more : place + size + size * n ≤ limit = omega arith in
+    let same : nat_le (place + size) (min room limit) ≡ nat_le (place + size) room = grind arith in
+    rw same (ap (λ ps. if nat_le (place + size) room then place ∷ ps else []) (stepped-within n size room limit (place + size) more))

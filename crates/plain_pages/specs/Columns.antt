@@ -1,6 +1,7 @@
 -- Columns of a table, the bytes that they keep, and the pages that are written of them.
-use Rattle.std.specs.Prelude.{◌≡◌, ℕ, zero, suc, ◌+◌, ◌-◌, ◌*◌, ◌/◌, ◌<◌, ◌≤◌, ◌==◌, Bool, true, false, if◌then◌else◌, List, [], ◌∷◌, ◌++◌, take, drop, map, replicate, length, slice_get, slice_index, FitsSigned, Option, option_and_then, Ok}
+use Rattle.std.specs.Prelude.{◌≡◌, ◌≢◌, ℕ, zero, suc, ◌+◌, ◌-◌, ◌*◌, ◌/◌, ◌<◌, ◌≤◌, ◌==◌, Bool, true, false, if◌then◌else◌, List, [], ◌∷◌, ◌++◌, take, drop, map, replicate, length, slice_get, slice_index, FitsSigned, Option, option_and_then, Ok}
 use Rattle.std.specs.Int.{w32, w64, to_le_bytes, cast_unsigned}
+use Rattle.std.specs.List.{AllByRecursion}
 use Rattle.parquet_types.specs.declared.column.ColumnKind.{ColumnKind}
 use Rattle.parquet_types.specs.declared.column.ColumnKind.TheVariants.{Boolean, Int32, Int64, Int96, Float, Double, ByteArray, Fixed}
 use Rattle.parquet_types.specs.declared.column.ColumnSpec.{ColumnSpec}
@@ -8,6 +9,7 @@ use Rattle.parquet_types.specs.declared.page_head.DataHead.{DataHead}
 use Rattle.pme_base.specs.declared.place.Place.{Place}
 use Rattle.hybrid_runs.specs.Written.{bits_text, run_text}
 use Rattle.plain_pages.specs.Cells.{Cell, null, bool, int32, int64, bytes}
+use Rattle.plain_pages.specs.ColumnSpecs.{IsColumnSpec}
 use Rattle.plain_pages.specs.Plain.{cell_at, value_of, value_size}
 use Rattle.plain_pages.specs.Pages.{page, is_coded}
 
@@ -100,8 +102,9 @@ pub record Keeps (spec : ColumnSpec) (cells : List Cell) (levels marks values : 
 abbrev pub levels_in : Bool → ℕ → List ℕ → List ℕ
 levels_in optional count kept = if optional then kept else replicate count 1
 
--- the same, with room for the levels of all cells before the next mark
+-- the same for a column that a header can name, with room for the levels of all cells before the next mark
 pub record IsKept (spec : ColumnSpec) (cells : List Cell) (count : ℕ) (levels marks values : List ℕ) (room : ℕ) : Type 0 where
+  pub named : IsColumnSpec spec
   pub counted : count ≡ length cells
   pub kept : Keeps spec cells (levels_in spec.optional count levels) marks values
   pub roomy : spec.optional ≡ true → 16 * length marks ≤ room
@@ -116,9 +119,23 @@ abbrev pub AreOfLength : ℕ → List Column → Type 0
 AreOfLength rows [] = Unit {0}
 AreOfLength rows (column ∷ columns) = (length column.cells ≡ rows) × AreOfLength rows columns
 
--- the columns of a table have one length
-abbrev pub IsTable : List Column → Type 0
-IsTable columns = AreOfLength (rows_of columns) columns
+-- columns of one length
+abbrev pub HaveOneLength : List Column → Type 0
+HaveOneLength columns = AreOfLength (rows_of columns) columns
+
+-- no column has this name
+abbrev pub IsNewName : List ℕ → List Column → Type 0
+IsNewName name columns = AllByRecursion (λ (column : Column). column.spec.name ≢ name) columns
+
+-- columns that a header can name, each by a name of its own
+abbrev pub AreNamed : List Column → Type 0
+AreNamed [] = Unit {0}
+AreNamed (column ∷ columns) = IsColumnSpec column.spec × IsNewName column.spec.name columns × AreNamed columns
+
+-- columns that make a table: of one length, and each with a name of its own
+pub record IsTable (columns : List Column) : Type 0 where
+  pub even : HaveOneLength columns
+  pub named : AreNamed columns
 
 -- a column that a table may be given: of any length where it is the first
 abbrev pub IsNextColumn : List Column → Column → Type 0

@@ -1,4 +1,5 @@
 pub mod Cells
+pub mod ColumnSpecs
 pub mod Columns
 pub mod PageInside
 pub mod Pages

@@ -30,10 +30,6 @@ impl Model for Dictionary {
     ghost view = { λ d. map (λ place. plain.cell_at d.kind place d.body) d.places };
 }
 
-/// The most bytes of a body that an index is made of. A longer one is answered as want of memory; pages have at most
-/// 268,435,456.
-pub const LONGEST_BODY: usize = 536_870_911;
-
 impl Dictionary {
     /// The dictionary of `count` PLAIN entries in `body`. BadPage tells the number of the first entry that isn't
     /// there; bytes behind the last are unread.
@@ -49,9 +45,6 @@ impl Dictionary {
         ensures quiet { Quiet result }
         ensures causes { IfErr result (λ refusal. pages.is_page_cause refusal.cause ≡ true) }
     {
-        if body.len() > LONGEST_BODY {
-            return Err(no_memory());
-        }
         let places = match plain_places(alloc, spec.kind, count as usize, 0, body.as_slice()) {
             Ok(places) => places,
             Err(_) => return Err(no_memory()),

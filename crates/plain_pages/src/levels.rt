@@ -32,6 +32,8 @@ pub fn read_levels(
     ensures answers { Answers result (inside.levels_read place.now optional count body.now) }
     ensures count { IfOk result (λ levels. length levels.ranks ≡ count) }
     ensures start { IfOk result (λ levels. levels.start ≤ length body.now) }
+    ensures near { IfOk result (λ levels. levels.start < 2 ^ 33) }
+    ensures defined { IfOk result (λ levels. levels.defined ≤ count) }
     ensures quiet { Quiet result }
     ensures causes { IfErr result (λ refusal. pages.is_page_cause refusal.cause ≡ true) }
 {
@@ -63,10 +65,13 @@ fn read_hybrid(
     size: usize,
     bytes: &[u8],
 ) -> Result<LevelsRead, Refusal>
-    requires { count < 2 ^ 31 }
+    requires count { count < 2 ^ 31 }
+    requires size { size < 2 ^ 32 }
     ensures answers { Answers result (inside.levels_within place.now count size bytes.now) }
     ensures count { IfOk result (λ levels. length levels.ranks ≡ count) }
     ensures start { IfOk result (λ levels. levels.start ≤ 4 + length bytes.now) }
+    ensures near { IfOk result (λ levels. levels.start < 2 ^ 33) }
+    ensures defined { IfOk result (λ levels. levels.defined ≤ count) }
     ensures quiet { Quiet result }
     ensures causes { IfErr result (λ refusal. pages.is_page_cause refusal.cause ≡ true) }
 {
@@ -106,6 +111,8 @@ fn numbered(alloc: Global, start: usize, levels: &[u32]) -> Result<LevelsRead, O
     requires { length levels.now < 2 ^ 31 }
     ensures read { IfOk result (λ read. read ≡ inside.levels_before start levels.now) }
     ensures count { IfOk result (λ read. length read.ranks ≡ length levels.now) }
+    ensures defined { IfOk result (λ read. read.defined ≤ length levels.now) }
+    ensures start { IfOk result (λ read. read.start ≡ start) }
 {
     let mut ranks = Vec::new(alloc);
     let mut defined = 0;

@@ -8,7 +8,7 @@ ghost use Rattle.plain_pages.specs.PageInside as inside;
 ghost use Rattle.plain_pages.specs.Pages as pages;
 ghost use Rattle.plain_pages.specs.Plain as plain;
 
-use crate::dictionary::{Dictionary, LONGEST_BODY};
+use crate::dictionary::Dictionary;
 use crate::faults::{bad_page, no_memory};
 use crate::levels::{count_below, read_levels};
 use crate::places::Places;
@@ -20,7 +20,8 @@ use pme_base::{OutOfMemory, PagePart, Place, Refusal};
 use std::alloc::Global;
 
 /// Where the cells of a page stand: which are null, and at which places the values of the others are. Values of one
-/// size take no memory, others four bytes each, and nulls cost four bytes for each cell of an OPTIONAL column.
+/// size take no memory, others four bytes each (byte arrays eight in a body of 4 GiB or more), and nulls cost four
+/// bytes for each cell of an OPTIONAL column.
 #[derive(Debug, Drop)]
 pub struct PageIndex {
     pub(crate) kind: ColumnKind,
@@ -66,9 +67,6 @@ fn read_index(
     ensures quiet { Quiet result }
     ensures causes { IfErr result (λ refusal. pages.is_page_cause refusal.cause ≡ true) }
 {
-    if body.len() > LONGEST_BODY {
-        return Err(no_memory());
-    }
     let coded = head.encoding != 0;
     let levels = read_levels(alloc, place, spec.optional, head.num_values as usize, body)?;
     let values = ValuesAsked {
@@ -114,7 +112,8 @@ fn read_values(
     body: &[u8],
 ) -> Result<Places, Refusal>
     requires start { asked.now.start ≤ length body.now }
-    requires small { length body.now < 2 ^ 32 }
+    requires near { asked.now.start < 2 ^ 33 }
+    requires few { asked.now.count < 2 ^ 33 }
     ensures answers { Answers result (inside.values_read place.now kind coded asked.now.entries asked.now.count asked.now.start body.now) }
     ensures quiet { Quiet result }
     ensures causes { IfErr result (λ refusal. pages.is_page_cause refusal.cause ≡ true) }
@@ -142,7 +141,8 @@ fn read_plain(
     body: &[u8],
 ) -> Result<Places, Refusal>
     requires start { start ≤ length body.now }
-    requires small { length body.now < 2 ^ 32 }
+    requires near { start < 2 ^ 33 }
+    requires few { count < 2 ^ 33 }
     ensures answers { Answers result (pages.all_there place.now Values count (plain.places kind count (plain.place_of_byte kind start) body.now)) }
     ensures quiet { Quiet result }
     ensures causes { IfErr result (λ refusal. pages.is_page_cause refusal.cause ≡ true) }

@@ -9,6 +9,8 @@ pub enum PlaceLayout {
     /// The first, the distance from each to the next, and how many there are.
     Even(usize, usize, usize),
     Listed(Vec<u32>),
+    /// The places in a body of 4 GiB or more.
+    Wide(Vec<usize>),
 }
 
 /// The places of values, in order: those of one size take no memory.
@@ -46,12 +48,21 @@ impl Places {
         }
     }
 
+    pub fn wide(places: Vec<usize>) -> Places
+        ensures { result ≡ places.items }
+    {
+        Places {
+            layout: PlaceLayout::Wide(places),
+        }
+    }
+
     pub fn len(&self) -> usize
         ensures { result ≡ length self.now }
     {
         match &self.layout {
             PlaceLayout::Even(first, step, count) => even_length(*first, *step, *count),
             PlaceLayout::Listed(places) => places.len(),
+            PlaceLayout::Wide(places) => places.len(),
         }
     }
 
@@ -61,6 +72,7 @@ impl Places {
         match &self.layout {
             PlaceLayout::Even(first, step, count) => even_place(*first, *step, *count, k),
             PlaceLayout::Listed(places) => listed_place(places.as_slice(), k),
+            PlaceLayout::Wide(places) => wide_place(places.as_slice(), k),
         }
     }
 }
@@ -86,4 +98,11 @@ fn listed_place(places: &[u32], k: usize) -> Option<usize>
 {
     let place = places.get(k)?;
     Some(*place as usize)
+}
+
+fn wide_place(places: &[usize], k: usize) -> Option<usize>
+    ensures { result ≡ slice_get places.now k }
+{
+    let place = places.get(k)?;
+    Some(*place)
 }

@@ -92,14 +92,12 @@ pub fn plain_places(
     body: &[u8],
 ) -> Result<Places, OutOfMemory>
     requires start { start ≤ length body.now }
-    requires small { length body.now < 2 ^ 32 }
+    requires near { start < 2 ^ 33 }
+    requires few { count < 2 ^ 33 }
     ensures { IfOk result (λ found. found ≡ plain.places kind count (plain.place_of_byte kind start) body.now) }
 {
     match fixed_size(kind) {
-        Some(size) => {
-            let room = place_of_byte(kind, body.len());
-            Ok(stepped_places(size, room, count, place_of_byte(kind, start)))
-        }
+        Some(size) => Ok(sized_places(kind, size, count, start, body.len())),
         None => array_places(alloc, count, start, body),
     }
 }
@@ -118,21 +116,26 @@ pub fn fixed_size(kind: ColumnKind) -> Option<usize>
     }
 }
 
-/// The place at which a byte begins.
-pub fn place_of_byte(kind: ColumnKind, byte: usize) -> usize
-    requires { byte < 2 ^ 60 }
-    ensures place { result ≡ plain.place_of_byte kind byte }
+/// The places of values of one size, from byte `start` of a body of `length` bytes on.
+fn sized_places(kind: ColumnKind, size: usize, count: usize, start: usize, length: usize) -> Places
+    requires start { start ≤ length }
+    requires near { start < 2 ^ 33 }
+    requires few { count < 2 ^ 33 }
+    requires size { Some size ≡ plain.fixed_size kind }
+    ensures { result ≡ stepped size (plain.place_of_byte kind length) count (plain.place_of_byte kind start) }
 {
     match kind {
-        ColumnKind::Boolean => 8 * byte,
-        _ => byte,
+        // The booleans need no more than `count` bytes, and in longer bodies the number of a bit may not fit.
+        ColumnKind::Boolean => {
+            stepped_places(size, 8 * length.min(start + count), count, 8 * start)
+        }
+        _ => stepped_places(size, length, count, start),
     }
 }
 
 /// The places of values of one size that lie within a room.
 fn stepped_places(size: usize, room: usize, count: usize, first: usize) -> Places
     requires first { first ≤ room }
-    requires small { room < 2 ^ 35 }
     ensures { result ≡ stepped size room count first }
 {
     if size == 0 {
@@ -141,8 +144,25 @@ fn stepped_places(size: usize, room: usize, count: usize, first: usize) -> Place
     Places::even(first, size, count.min((room - first) / size))
 }
 
-/// The places of byte arrays: each begins where the one before ends.
+/// The places of byte arrays: each begins where the one before ends. In bodies of less than 4 GiB each takes four
+/// bytes, and eight in longer ones.
 fn array_places(
+    alloc: Global,
+    count: usize,
+    start: usize,
+    body: &[u8],
+) -> Result<Places, OutOfMemory>
+    requires { start ≤ length body.now }
+    ensures { IfOk result (λ found. found ≡ plain.places kind_of.ByteArray count start body.now) }
+{
+    if body.len() < 4_294_967_296 {
+        near_arrays(alloc, count, start, body)
+    } else {
+        far_arrays(alloc, count, start, body)
+    }
+}
+
+fn near_arrays(
     alloc: Global,
     count: usize,
     start: usize,
@@ -162,6 +182,22 @@ fn array_places(
         place = next;
     }
     Ok(Places::listed(places))
+}
+
+fn far_arrays(alloc: Global, count: usize, start: usize, body: &[u8]) -> Result<Places, OutOfMemory>
+    requires { start ≤ length body.now }
+    ensures { IfOk result (λ found. found ≡ plain.places kind_of.ByteArray count start body.now) }
+{
+    let mut places = Vec::new(alloc);
+    let mut place = start;
+    for _ in 0..count {
+        let Some(next) = array_end(place, body) else {
+            return Ok(Places::wide(places));
+        };
+        places.push(place)?;
+        place = next;
+    }
+    Ok(Places::wide(places))
 }
 
 /// Where the byte array at a place ends, if it is wholly there.

@@ -2,6 +2,7 @@ ghost use Rattle.std.specs.Prelude.{◌≡◌, ◌<◌, ◌≤◌, ◌-◌, ◌�
 ghost use Rattle.plain_pages.specs.Cells.{cell_of};
 ghost use Rattle.plain_pages.specs.Columns as columns;
 ghost use Rattle.plain_pages.specs.Columns.{IsTable};
+ghost use Rattle.plain_pages.specs.ColumnSpecs.{IsColumnSpec};
 
 use crate::cell_ref::CellRef;
 use crate::table_column::TableColumn;
@@ -10,7 +11,8 @@ use pme_base::{Bytes, OutOfMemory};
 use std::alloc::Global;
 use std::marker::Model;
 
-/// Columns of one length. A contract sees them as a list.
+/// Columns of one length, which a table's header can name and of which no two have one name. A contract sees them as
+/// a list.
 #[derive(Debug, Drop)]
 pub struct Table {
     columns: Vec<TableColumn>,
@@ -37,7 +39,7 @@ impl Table {
         }
     }
 
-    /// The table of these columns, which have one length.
+    /// The table of these columns, which have one length and of which no two have one name.
     pub fn from_columns(columns: Vec<TableColumn>) -> Table
         requires { IsTable «columns».items }
         ensures { result ≡ «columns».items }
@@ -45,12 +47,15 @@ impl Table {
         Table { columns }
     }
 
-    /// Adds a column behind the others. It has as many cells as those have.
+    /// Adds a column behind the others. It has as many cells as those have, and none of them has its name.
     pub fn add(&mut self, column: TableColumn) -> Result<(), OutOfMemory>
-        requires { columns.IsNextColumn self.old column }
+        requires long { columns.IsNextColumn self.old column }
+        requires new_name { columns.IsNewName column.spec.name self.old }
         ensures added { OnOk result (self.new ≡ self.old ++ column ∷ []) }
         ensures unchanged { OnErr result (self.new ≡ self.old) }
     {
+        // That a header can name the column is told by its spec.
+        let _spec = column.spec();
         self.columns.push(column)?;
         Ok(())
     }
@@ -67,15 +72,17 @@ impl Table {
 
     /// How many columns there are.
     pub fn columns(&self) -> usize
-        ensures { result ≡ length self.now }
+        ensures count { result ≡ length self.now }
+        ensures table { IsTable self.now }
     {
         self.columns.len()
     }
 
-    /// What a column is.
+    /// What a column is. A table's header can name it.
     pub fn spec(&self, column: usize) -> &ColumnSpec
         requires { column < length self.now }
-        ensures { option_map (λ c. c.spec) (slice_get self.now column) ≡ Some result.now }
+        ensures spec { option_map (λ c. c.spec) (slice_get self.now column) ≡ Some result.now }
+        ensures named { IsColumnSpec result.now }
     {
         self.column(column).spec()
     }

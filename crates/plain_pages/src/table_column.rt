@@ -3,6 +3,7 @@ ghost use Rattle.std.specs.Prelude.{slice_index, ◌%◌, ◌*◌, IsOk, vec_len
 ghost use Rattle.std.specs.Int.{w32, to_le_bytes};
 ghost use Rattle.plain_pages.specs.Cells.{cell_of, bytes as bytes_cell};
 ghost use Rattle.plain_pages.specs.Columns as columns;
+ghost use Rattle.plain_pages.specs.ColumnSpecs.{IsColumnSpec};
 ghost use Rattle.plain_pages.specs.Plain as plain;
 ghost use Rattle.parquet_types.specs.declared.column.ColumnKind.TheVariants as kind_of;
 
@@ -40,8 +41,10 @@ impl Model for TableColumn {
 }
 
 impl TableColumn {
-    /// A column without cells; it takes no memory yet.
+    /// A column without cells; it takes no memory yet. A table's header can name it: its name is UTF-8 text of 1 to
+    /// 268,435,456 bytes, only byte arrays are text, and a fixed size is 1 to 65,536.
     pub fn new(alloc: Global, spec: ColumnSpec) -> TableColumn
+        requires { IsColumnSpec spec }
         ensures { result ≡ record { spec = spec; cells = [] } }
     {
         TableColumn {
@@ -62,7 +65,8 @@ impl TableColumn {
 
     /// What the column is.
     pub fn spec(&self) -> &ColumnSpec
-        ensures { result.now ≡ self.now.spec }
+        ensures spec { result.now ≡ self.now.spec }
+        ensures named { IsColumnSpec result.now }
     {
         &self.spec
     }

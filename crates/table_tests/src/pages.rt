@@ -1,5 +1,6 @@
-ghost use Rattle.std.specs.Prelude.{◌≡◌, length, IfOk};
+ghost use Rattle.std.specs.Prelude.{◌≡◌, ◌<◌, false, length, IfOk};
 ghost use Rattle.plain_pages.specs.Cells.{bytes as bytes_cell};
+ghost use Rattle.plain_pages.specs.ColumnSpecs.{HasWord, IsColumnSpec};
 ghost use Rattle.plain_pages.specs.Columns.{IsValueOf};
 
 use parquet_types::{ColumnKind, ColumnSpec, DataHead};
@@ -7,17 +8,40 @@ use plain_pages::{CellRef, Dictionary, PageIndex, PageView, Table, TableColumn, 
 use pme_base::{Bytes, OutOfMemory, Place};
 use std::alloc::{AllocError, Global};
 use std::test::Fail;
+use table_text::{TableRefusal, table_from_csv};
 
-fn spec_of(alloc: Global, kind: ColumnKind, optional: bool) -> ColumnSpec
-    ensures kind { result.kind ≡ kind }
-    ensures optional { result.optional ≡ optional }
-{
+// A table with a required and an optional column of each type.
+const EACH_TYPE: &str = "a:bool,b:int32,c:int64,d:int96,e:float,f:double,g:bytes,h:text,i:fixed(3),\
+    j:bool?,k:int32?,l:int64?,m:int96?,n:float?,o:double?,p:bytes?,q:text?,r:fixed(3)?\n\
+    true,-7,-2,000102030405060708090a0b,0000803f,000000000000f03f,00ff,ann,010203,\
+    true,-7,-2,000102030405060708090a0b,0000803f,000000000000f03f,00ff,ann,010203\n\
+    false,258,5,ffffffffffffffffffffffff,00000000,0000000000000000,,,000000,\
+    \\N,\\N,\\N,\\N,\\N,\\N,\\N,\\N,\\N\n\
+    true,258,5,ffffffffffffffffffffffff,00000000,0000000000000000,,\"a,b\",000000,\
+    false,258,5,ffffffffffffffffffffffff,00000000,0000000000000000,,\"a,b\",000000\n";
+
+fn spec_of(alloc: Global, kind: ColumnKind, optional: bool) -> ColumnSpec {
     ColumnSpec {
         name: Bytes::new(alloc),
         kind,
         optional,
         text: false,
     }
+}
+
+/// A column without cells, by the name of `a`.
+fn column_of(alloc: Global, kind: ColumnKind, optional: bool) -> Result<TableColumn, OutOfMemory>
+    requires { HasWord kind false }
+    ensures kind { IfOk result (λ column. column.spec.kind ≡ kind) }
+    ensures optional { IfOk result (λ column. column.spec.optional ≡ optional) }
+{
+    let spec = ColumnSpec {
+        name: Bytes::copy_of(alloc, b"a")?,
+        kind,
+        optional,
+        text: false,
+    };
+    Ok(TableColumn::new(alloc, spec))
 }
 
 fn shown(alloc: Global, view: &PageView<'_>) -> Result<String, AllocError> {
@@ -53,7 +77,7 @@ fn told(
 
 #[test]
 fn reads_plain_pages_or_tells_the_first_fault(rt: HostRuntime) -> Result<(), Fail> {
-    let rows: [(ColumnKind, bool, u16, &[u8], &str); 19] = [
+    let rows: [(ColumnKind, bool, u16, &[u8], &str); 20] = [
         (
             ColumnKind::Int32,
             false,
@@ -165,6 +189,13 @@ fn reads_plain_pages_or_tells_the_first_fault(rt: HostRuntime) -> Result<(), Fai
             "Bytes([1, 2, 3]);Bytes([4, 5, 6]);",
         ),
         (
+            ColumnKind::Fixed(0),
+            true,
+            3,
+            &[2, 0, 0, 0, 3, 5],
+            "Bytes([]);Null;Bytes([]);",
+        ),
+        (
             ColumnKind::ByteArray,
             false,
             2,
@@ -237,10 +268,8 @@ fn tells_the_first_entry_that_is_not_there(rt: HostRuntime) -> Result<(), Fail> 
     Ok(())
 }
 
-fn texts(alloc: Global) -> Result<TableColumn, OutOfMemory>
-    ensures { IfOk result (λ column. length column.cells ≡ 4) }
-{
-    let mut column = TableColumn::new(alloc, spec_of(alloc, ColumnKind::ByteArray, true));
+fn texts(alloc: Global) -> Result<TableColumn, OutOfMemory> {
+    let mut column = column_of(alloc, ColumnKind::ByteArray, true)?;
     column.push(CellRef::Bytes(b"ann"))?;
     column.push(CellRef::Null)?;
     column.push(CellRef::Bytes(b""))?;
@@ -248,10 +277,8 @@ fn texts(alloc: Global) -> Result<TableColumn, OutOfMemory>
     Ok(column)
 }
 
-fn flags(alloc: Global) -> Result<TableColumn, OutOfMemory>
-    ensures { IfOk result (λ column. length column.cells ≡ 4) }
-{
-    let mut column = TableColumn::new(alloc, spec_of(alloc, ColumnKind::Boolean, true));
+fn flags(alloc: Global) -> Result<TableColumn, OutOfMemory> {
+    let mut column = column_of(alloc, ColumnKind::Boolean, true)?;
     column.push(CellRef::Bool(true))?;
     column.push(CellRef::Bool(false))?;
     column.push(CellRef::Null)?;
@@ -260,14 +287,14 @@ fn flags(alloc: Global) -> Result<TableColumn, OutOfMemory>
 }
 
 fn numbers(alloc: Global) -> Result<TableColumn, OutOfMemory> {
-    let mut column = TableColumn::new(alloc, spec_of(alloc, ColumnKind::Int64, false));
+    let mut column = column_of(alloc, ColumnKind::Int64, false)?;
     column.push(CellRef::Int64(5))?;
     column.push(CellRef::Int64(-2))?;
     Ok(column)
 }
 
 fn small_numbers(alloc: Global) -> Result<TableColumn, OutOfMemory> {
-    let mut column = TableColumn::new(alloc, spec_of(alloc, ColumnKind::Int32, true));
+    let mut column = column_of(alloc, ColumnKind::Int32, true)?;
     column.push(CellRef::Int32(-7))?;
     column.push(CellRef::Null)?;
     column.push(CellRef::Int32(258))?;
@@ -276,9 +303,10 @@ fn small_numbers(alloc: Global) -> Result<TableColumn, OutOfMemory> {
 
 /// A value that is bytes, a null, and the value again.
 fn around_a_null(alloc: Global, kind: ColumnKind, value: &[u8]) -> Result<TableColumn, OutOfMemory>
-    requires { IsValueOf kind (bytes_cell value.now) }
+    requires value { IsValueOf kind (bytes_cell value.now) }
+    requires word { HasWord kind false }
 {
-    let mut column = TableColumn::new(alloc, spec_of(alloc, kind, true));
+    let mut column = column_of(alloc, kind, true)?;
     column.push(CellRef::Bytes(value))?;
     column.push(CellRef::Null)?;
     column.push(CellRef::Bytes(value))?;
@@ -364,29 +392,44 @@ fn writes_the_other_types_with_nulls(rt: HostRuntime) -> Result<(), Fail> {
         whole.as_str(),
         "[2, 0, 0, 0, 3, 5, 1, 2, 3, 1, 2, 3] Bytes([1, 2, 3]);Null;Bytes([1, 2, 3]);"
     );
-    let none = around_a_null(alloc, ColumnKind::Fixed(0), &[])?;
-    let whole = written(alloc, none, 0, 3)?;
-    assert_eq!(rt;
-        whole.as_str(),
-        "[2, 0, 0, 0, 3, 5] Bytes([]);Null;Bytes([]);"
-    );
     Ok(())
 }
 
+fn column_shown(alloc: Global, table: &Table, column: usize) -> Result<String, AllocError>
+    requires { column < length table.now }
+{
+    let mut text = String::new(alloc);
+    for row in 0..table.rows() {
+        let cell = format!(in alloc; "{:?};", table.cell(column, row))?;
+        text.push_str(cell.as_str())?;
+    }
+    Ok(text)
+}
+
+fn each_type(alloc: Global) -> Result<Table, Fail> {
+    if EACH_TYPE.len() > 1024 {
+        return Err(Fail::from("too long"));
+    }
+    match table_from_csv(alloc, EACH_TYPE.as_bytes()) {
+        Ok(table) => Ok(table),
+        Err(TableRefusal::OutOfMemory) => Err(Fail::from("no memory")),
+        Err(_) => Err(Fail::from("no table")),
+    }
+}
+
 #[test]
-fn a_table_lends_its_cells(rt: HostRuntime) -> Result<(), Fail> {
-    let mut table = Table::new(rt.alloc());
-    table.add(texts(rt.alloc())?)?;
-    table.add(flags(rt.alloc())?)?;
-    assert_eq!(rt; table.columns(), 2);
-    assert_eq!(rt; table.rows(), 4);
-    assert_eq!(rt; table.spec(1).kind, ColumnKind::Boolean);
-    let cells = format!(in rt.alloc();
-        "{:?} {:?} {:?}",
-        table.cell(0, 3),
-        table.cell(1, 2),
-        table.cell(1, 3)
-    )?;
-    assert_eq!(rt; cells.as_str(), "Bytes([97, 44, 98]) Null Bool(true)");
+fn a_page_of_each_type_is_read_back(rt: HostRuntime) -> Result<(), Fail> {
+    let table = each_type(rt.alloc())?;
+    assert_eq!(rt; (table.columns(), table.rows()), (18, 3));
+    for column in 0..table.columns() {
+        if table.rows() > 3 {
+            return Err(Fail::from("too many rows"));
+        }
+        let mut body = Bytes::new(rt.alloc());
+        write_page(&table, column, 0, table.rows(), &mut body)?;
+        let read = told(rt.alloc(), table.spec(column), 3, 0, None, body.as_slice())?;
+        let cells = column_shown(rt.alloc(), &table, column)?;
+        assert_eq!(rt; read.as_str(), cells.as_str());
+    }
     Ok(())
 }

@@ -110,6 +110,7 @@ a:text,b:text/"x","y","" 1,2
 a:int64/1/"2"/x 3,0
 a:int64/1/"2",3/x 2,1
 a:int64/x/"2" 1,0
+a:int32,a:int32/ 0,1
 a:int32,a:bool/ 0,1
 a:int32,b:int32,a:bool,c:what/ 0,2
 :int32/ 0,0

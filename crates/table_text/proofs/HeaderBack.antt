@@ -13,7 +13,8 @@ use Rattle.parquet_types.specs.declared.column.ColumnKind.TheVariants.{Boolean, 
 use Rattle.parquet_types.specs.declared.column.ColumnSpec.{ColumnSpec}
 use Rattle.table_text.specs.declared.column_type.ColumnType.{ColumnType}
 use Rattle.table_text.specs.Headers.{behind, heading_read, is_name, last_colon}
-use Rattle.table_text.specs.ReadingBack.{HasWord, IsNameable, type_of}
+use Rattle.plain_pages.specs.ColumnSpecs.{HasWord}
+use Rattle.table_text.specs.ReadingBack.{IsNameable, type_of}
 use Rattle.table_text.specs.Texts.{heading_text, kind_text}
 use Rattle.table_text.specs.Types.{column_type, fixed_read, size_read, type_named, type_read}
 use Rattle.table_text.proofs.CellBack.{plain_decimal}

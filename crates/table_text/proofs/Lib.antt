@@ -3,6 +3,7 @@ pub mod CellLemmas
 pub mod DrawLemmas
 pub mod HeaderBack
 pub mod HeaderLemmas
+pub mod HeaderSpecs
 pub mod Numerals
 pub mod RecordLemmas
 pub mod TableBack

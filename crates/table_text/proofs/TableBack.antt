@@ -11,7 +11,7 @@ use Rattle.csv.specs.declared.parser.State.TheVariants as st
 use Rattle.csv.proofs.RoundTrip.{read-write}
 use Rattle.parquet_types.specs.declared.column.ColumnSpec.{ColumnSpec}
 use Rattle.plain_pages.specs.Cells.{Cell, null}
-use Rattle.plain_pages.specs.Columns.{AreCellsOf, AreOfLength, Column, IsCellOf, IsTable, rows_of}
+use Rattle.plain_pages.specs.Columns.{AreCellsOf, AreOfLength, Column, HaveOneLength, IsCellOf, rows_of}
 use Rattle.table_text.specs.Headers.{Names, columns_read}
 use Rattle.table_text.specs.ReadingBack.{AreChosen, AreNameable, AreSpelledColumns, IsSpelled, records_text, row_fields, rows_fields, table_records, text_of_table}
 use Rattle.table_text.specs.Records.{records_left, records_of}
@@ -100,7 +100,7 @@ whole : (rows : ℕ) (columns : List Column) → AreOfLength rows columns → fi
 whole rows [] even = refl
 whole rows (column ∷ columns) even = rw (take_all rows column.cells (omega (arith, even.0)), whole rows columns even.1) refl
 
-pub table_back : (schema : List ColumnSpec) (chosen : List ℕ) (columns : List Column) → 0 < length columns → IsTable columns → AreChosen schema chosen columns
+pub table_back : (schema : List ColumnSpec) (chosen : List ℕ) (columns : List Column) → 0 < length columns → HaveOneLength columns → AreChosen schema chosen columns
     → AreNameable empty columns → AreSpelledColumns columns
     → strip_bom (text_of_table schema chosen columns) ≡ text_of_table schema chosen columns → table (text_of_table schema chosen columns) ≡ Ok columns
 table_back schema chosen columns some even of_schema names cells bare =

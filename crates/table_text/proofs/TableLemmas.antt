@@ -1,18 +1,20 @@
 -- Rows of a table, one cell and one record at a time.
-use Rattle.std.proofs.Common.{subst, Result, add-one, Ok, Err, ◌≡◌, ◌==◌, ℕ, zero, suc, ◌+◌, ◌<◌, ◌≤◌, Some, None, List, [], ◌∷◌, ◌++◌, take, drop, set, length, get_or, Option, refl, sym, ap, ◌∙◌, arith, append_assoc, inl, inr}
-use Rattle.std.specs.Option.{option_map, ok_or}
+use Rattle.std.proofs.Common.{subst, Result, add-one, Ok, Err, ◌≡◌, ◌≢◌, ◌==◌, map, ℕ, zero, suc, ◌+◌, ◌<◌, ◌≤◌, Some, None, List, [], ◌∷◌, ◌++◌, take, drop, set, length, get_or, Option, refl, sym, ap, ◌∙◌, arith, append_assoc, inl, inr}
+use Rattle.std.specs.Option.{option_map}
 use Rattle.std.proofs.Math.Seq.{drop-cons}
 use Rattle.std.proofs.lemmas.Bool.{cases_Bool, eqb-true}
 use Rattle.std.proofs.lemmas.List.{take_more_set, drop-set-lt, length-append}
-use Rattle.std.specs.FinSet.{empty, insert}
+use Rattle.std.specs.FinSet.{empty}
 use Rattle.csv.specs.Records.{field_at}
 use Rattle.pme_base.specs.Steps.{◌>>=◌}
 use Rattle.parquet_types.specs.declared.column.ColumnSpec.{ColumnSpec}
 use Rattle.plain_pages.specs.Cells.{Cell}
-use Rattle.plain_pages.specs.Columns.{AreOfLength, Column, IsCellOf, IsTable}
+use Rattle.plain_pages.specs.ColumnSpecs.{IsColumnSpec}
+use Rattle.plain_pages.specs.Columns.{AreNamed, AreOfLength, Column, HaveOneLength, IsCellOf, IsNewName, IsTable}
 use Rattle.table_text.proofs.HeaderLemmas.{field_found, onto}
+use Rattle.table_text.proofs.HeaderSpecs.{header_columns}
 use Rattle.table_text.specs.Cells.{cell_read}
-use Rattle.table_text.specs.Headers.{Names, columns_read, empty_column, new_heading}
+use Rattle.table_text.specs.Headers.{columns_read}
 use Rattle.table_text.specs.Records.{AreShort}
 use Rattle.table_text.specs.Tables.{IsRecordRefusalOf, IsRefusalOf, at_entry, at_field, before, cell_added, in_record, row_added, row_read, rows_added, with_cell, Spot}
 use Rattle.table_text.specs.declared.from_csv.TableRefusal.{TableRefusal}
@@ -50,54 +52,75 @@ pub refused_in : (answer : Result (List Column) ℕ) (error : RecordRefusal) (en
 refused_in answer (BadField field) entry h = rw h refl
 refused_in answer RecordMemory entry h = tt
 
--- all columns keep one length
-even_row : (n place : ℕ) (columns more : List Column) (fields : List (List ℕ)) → AreOfLength n columns → length fields ≡ length columns
-    → row_added place columns fields ≡ Ok more → AreOfLength (n + 1) more
-even_row n place [] more fields h long e = let same : [] ≡ more = cc e in rw (← same) tt
-even_row n place (c ∷ cs) more [] h long e = absurd (omega (arith, long))
-even_row n place (c ∷ cs) more (f ∷ fs) h long e =
-    elim (cell_read c.spec f) as (λ o. before place (option_map (with_cell c) o) (row_added (place + 1) cs fs) ≡ Ok more → AreOfLength (n + 1) more) [
+-- all columns keep one length, and their specs
+abbrev specs_of : List Column → List ColumnSpec
+specs_of columns = map (λ (column : Column). column.spec) columns
+
+abbrev Grown : ℕ → List Column → List Column → Type 0
+Grown n columns more = AreOfLength n more × (specs_of more ≡ specs_of columns)
+
+grown_row : (n place : ℕ) (columns more : List Column) (fields : List (List ℕ)) → AreOfLength n columns → length fields ≡ length columns
+    → row_added place columns fields ≡ Ok more → Grown (n + 1) columns more
+grown_row n place [] more fields h long e = let same : [] ≡ more = cc e in rw (← same) (tt, refl)
+grown_row n place (c ∷ cs) more [] h long e = absurd (omega (arith, long))
+grown_row n place (c ∷ cs) more (f ∷ fs) h long e =
+    elim (cell_read c.spec f) as (λ o. before place (option_map (with_cell c) o) (row_added (place + 1) cs fs) ≡ Ok more → Grown (n + 1) (c ∷ cs) more) [
       | None ↦ λ no_cell. cc no_cell
-      | Some x ↦ λ found. elim (row_added (place + 1) cs fs) as (λ r. row_added (place + 1) cs fs ≡ r → before place (Some (with_cell c x)) r ≡ Ok more → AreOfLength (n + 1) more) [
+      | Some x ↦ λ found. elim (row_added (place + 1) cs fs) as (λ r. row_added (place + 1) cs fs ≡ r → before place (Some (with_cell c x)) r ≡ Ok more → Grown (n + 1) (c ∷ cs) more) [
         | Ok rest ↦ λ is whole.
             let same : with_cell c x ∷ rest ≡ more = cc whole in
-            rw (← same) (length-append c.cells (x ∷ []) ∙ ap (λ (t : ℕ). t + 1) h.0, even_row n (place + 1) cs rest fs h.1 (omega (arith, long)) is)
+            let grown = grown_row n (place + 1) cs rest fs h.1 (omega (arith, long)) is in
+            rw (← same)
+            ((length-append c.cells (x ∷ []) ∙ ap (λ (t : ℕ). t + 1) h.0, grown.0), ap (λ (specs : List ColumnSpec). c.spec ∷ specs) grown.1)
         | Err b ↦ λ is whole. cc whole
       ] refl found
     ] e
 
-even_rows : (rows : List (List (List ℕ))) (n entry : ℕ) (columns more : List Column) → AreOfLength n columns → rows_added entry columns rows ≡ Ok more → (m : ℕ) × AreOfLength m more
-even_rows [] n entry columns more h e = let same : columns ≡ more = cc e in (n, rw (← same) h)
-even_rows (row ∷ rows) n entry columns more h e = elim (cases_Bool (length row == length columns)) [
+grown_rows : (rows : List (List (List ℕ))) (n entry : ℕ) (columns more : List Column) → AreOfLength n columns → rows_added entry columns rows ≡ Ok more → (m : ℕ) × Grown m columns more
+grown_rows [] n entry columns more h e = let same : columns ≡ more = cc e in (n, rw (← same) (h, refl))
+grown_rows (row ∷ rows) n entry columns more h e = elim (cases_Bool (length row == length columns)) [
   | inr other ↦ cc (rw other at e)
   | inl long ↦
-      elim (row_added 0 columns row) as (λ r. row_added 0 columns row ≡ r → (at_entry entry r >>= λ next. rows_added (entry + 1) next rows) ≡ Ok more → (m : ℕ) × AreOfLength m more) [
-        | Ok next ↦ λ is rest. even_rows rows (n + 1) (entry + 1) next more (even_row n 0 columns next row h (eqb-true _ _ long) is) rest
+      elim (row_added 0 columns row) as (λ r. row_added 0 columns row ≡ r → (at_entry entry r >>= λ next. rows_added (entry + 1) next rows) ≡ Ok more → (m : ℕ) × Grown m columns more) [
+        | Ok next ↦ λ is rest.
+            let one = grown_row n 0 columns next row h (eqb-true _ _ long) is in
+            let all = grown_rows rows (n + 1) (entry + 1) next more one.0 rest in
+            (all.0, (all.1.0, all.1.1 ∙ one.1))
         | Err b ↦ λ is rest. cc rest
       ] refl (rw long at e)
 ]
 
-even_header : (fields : List (List ℕ)) (place : ℕ) (earlier : Names) (more : List Column) → columns_read place earlier fields ≡ Ok more → AreOfLength 0 more
-even_header [] place earlier more e = let same : [] ≡ more = cc e in rw (← same) tt
-even_header (field ∷ fields) place earlier more e =
-    elim (new_heading earlier field) as (λ o. (ok_or o place >>= (λ head. columns_read (place + 1) (insert earlier head.0) fields >>= (λ columns. Ok (empty_column head.0 head.1 ∷ columns)))) ≡ Ok more → AreOfLength 0 more) [
-      | None ↦ λ bad. cc bad
-      | Some head ↦ λ found. elim (columns_read (place + 1) (insert earlier head.0) fields) as (λ r. columns_read (place + 1) (insert earlier head.0) fields ≡ r → (r >>= (λ columns. Ok (empty_column head.0 head.1 ∷ columns))) ≡ Ok more → AreOfLength 0 more) [
-        | Ok rest ↦ λ is whole.
-            let same : empty_column head.0 head.1 ∷ rest ≡ more = cc whole in
-            rw (← same) (refl, even_header fields (place + 1) (insert earlier head.0) rest is)
-        | Err b ↦ λ is whole. cc whole
-      ] refl found
-    ] e
+new_as : (name : List ℕ) (columns more : List Column) → specs_of columns ≡ specs_of more → IsNewName name columns → IsNewName name more
+new_as name [] [] e h = tt
+new_as name [] (d ∷ ds) e h = cc e
+new_as name (c ∷ cs) [] e h = cc e
+new_as name (c ∷ cs) (d ∷ ds) e h =
+    let first : c.spec ≡ d.spec = cc e in
+    let rest : specs_of cs ≡ specs_of ds = cc e in
+    (subst (λ (spec : ColumnSpec). spec.name ≢ name) first h.0, new_as name cs ds rest h.1)
 
-is_table : (n : ℕ) (columns : List Column) → AreOfLength n columns → IsTable columns
-is_table n [] h = tt
-is_table n (c ∷ columns) h = (refl, subst (λ (k : ℕ). AreOfLength k columns) (sym h.0) h.1)
+named_as : (columns more : List Column) → specs_of columns ≡ specs_of more → AreNamed columns → AreNamed more
+named_as [] [] e h = tt
+named_as [] (d ∷ ds) e h = cc e
+named_as (c ∷ cs) [] e h = cc e
+named_as (c ∷ cs) (d ∷ ds) e h =
+    let first : c.spec ≡ d.spec = cc e in
+    let rest : specs_of cs ≡ specs_of ds = cc e in (
+      subst IsColumnSpec first h.0,
+      subst (λ (spec : ColumnSpec). IsNewName spec.name ds) first (new_as c.spec.name cs ds rest h.1),
+      named_as cs ds rest h.2,
+    )
 
-pub even_table : (fields : List (List ℕ)) (rows : List (List (List ℕ))) (columns more : List Column) → columns_read 0 empty fields ≡ Ok columns → rows_added 1 columns rows ≡ Ok more → IsTable more
-even_table fields rows columns more header added =
-    let even = even_rows rows 0 1 columns more (even_header fields 0 empty columns header) added in
-    is_table even.0 more even.1
+one_length : (n : ℕ) (columns : List Column) → AreOfLength n columns → HaveOneLength columns
+one_length n [] h = tt
+one_length n (c ∷ columns) h = (refl, subst (λ (k : ℕ). AreOfLength k columns) (sym h.0) h.1)
+
+pub whole_table : (fields : List (List ℕ)) (rows : List (List (List ℕ))) (columns more : List Column) → AreShort fields → columns_read 0 empty fields ≡ Ok columns
+    → rows_added 1 columns rows ≡ Ok more → IsTable more
+whole_table fields rows columns more short header added =
+    let headed = header_columns fields 0 empty columns short header in
+    let grown = grown_rows rows 0 1 columns more headed.empty added in
+    record { even = one_length grown.0 more grown.1.0; named = named_as columns more (sym grown.1.1) headed.named }
 
 -- a record that is added
 pub rows_step : (entry : ℕ) (columns more : List Column) (row : List (List ℕ)) (all rest : List (List (List ℕ))) → all ≡ row ∷ rest

@@ -1,5 +1,5 @@
 -- What is written of a table is read back as it.
-use Rattle.std.specs.Prelude.{◌≡◌, ℕ, zero, suc, ◌+◌, ◌<◌, ◌≤◌, Bool, true, false, List, [], ◌∷◌, ◌++◌, map, length, slice_get, slice_index_or, Some, Ok}
+use Rattle.std.specs.Prelude.{◌≡◌, ℕ, zero, suc, ◌+◌, ◌<◌, Bool, true, false, List, [], ◌∷◌, ◌++◌, map, length, slice_get, slice_index_or, Some, Ok}
 use Rattle.std.specs.FinSet.{contains, empty, insert}
 use Rattle.std.specs.List.{AllByRecursion}
 use Rattle.std.specs.Str.{is_utf8}
@@ -9,10 +9,11 @@ use Rattle.csv.specs.Reading.{default_config, strip_bom}
 use Rattle.csv.specs.Writing.{default_writer, row_text}
 use Rattle.csv.specs.declared.parser.State.TheVariants as st
 use Rattle.parquet_types.specs.declared.column.ColumnKind.{ColumnKind}
-use Rattle.parquet_types.specs.declared.column.ColumnKind.TheVariants.{ByteArray, Fixed}
+use Rattle.parquet_types.specs.declared.column.ColumnKind.TheVariants.{ByteArray}
 use Rattle.parquet_types.specs.declared.column.ColumnSpec.{ColumnSpec}
 use Rattle.plain_pages.specs.Cells.{Cell, null, bytes}
-use Rattle.plain_pages.specs.Columns.{AreCellsOf, Column, IsCellOf, IsTable, rows_of}
+use Rattle.plain_pages.specs.ColumnSpecs.{HasWord}
+use Rattle.plain_pages.specs.Columns.{AreCellsOf, Column, HaveOneLength, IsCellOf, rows_of}
 use Rattle.table_text.specs.declared.column_type.ColumnType.{ColumnType}
 use Rattle.table_text.specs.Cells.{cell_read}
 use Rattle.table_text.specs.Headers.{Names, heading_read, is_name}
@@ -32,12 +33,6 @@ IsSpelled spec _ = Unit {0}
 -- a cell of a column is read back
 abbrev pub CellsReadBack : Type 0
 CellsReadBack = (spec : ColumnSpec) (cell : Cell) → IsCellOf spec cell → IsSpelled spec cell → cell_read spec (cell_text spec cell) ≡ Some cell
-
--- a type that has a word: only bytes are text, and a fixed size is 1 to 65,536
-abbrev pub HasWord : ColumnKind → Bool → Type 0
-HasWord ByteArray text = Unit {0}
-HasWord (Fixed size) text = (text ≡ false) × (1 ≤ size) × (size ≤ 65536)
-HasWord _ text = text ≡ false
 
 -- a column that a header can name
 pub record IsNameable (spec : ColumnSpec) : Type 0 where
@@ -101,6 +96,6 @@ text_of_table schema chosen columns = records_text (table_records schema chosen 
 -- a table is read back, unless its first name begins with a byte order mark, which a reader passes over
 abbrev pub TablesReadBack : Type 0
 TablesReadBack =
-    (schema : List ColumnSpec) (chosen : List ℕ) (columns : List Column) → 0 < length columns → IsTable columns → AreChosen schema chosen columns
+    (schema : List ColumnSpec) (chosen : List ℕ) (columns : List Column) → 0 < length columns → HaveOneLength columns → AreChosen schema chosen columns
     → AreNameable empty columns → AreSpelledColumns columns
     → strip_bom (text_of_table schema chosen columns) ≡ text_of_table schema chosen columns → table (text_of_table schema chosen columns) ≡ Ok columns

@@ -1,5 +1,6 @@
 // Tables that are worked out from a seed.
 ghost use Rattle.std.specs.Prelude.{◌≡◌, ◌<◌, ◌≤◌, [], length, IfOk, OnOk};
+ghost use Rattle.plain_pages.specs.ColumnSpecs.{IsColumnSpec};
 ghost use Rattle.plain_pages.specs.Columns.{IsTable};
 ghost use Rattle.table_text.specs.Generated as generated;
 ghost use Rattle.table_text.specs.Tables as tables;
@@ -141,6 +142,7 @@ fn empty(
     optional: bool,
     text: bool,
 ) -> Result<TableColumn, OutOfMemory>
+    requires { IsColumnSpec (generated.spec_as name.now kind optional text) }
     ensures { IfOk result (λ column. column ≡ generated.empty (generated.spec_as name.now kind optional text)) }
 {
     let spec = ColumnSpec {

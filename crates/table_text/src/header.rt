@@ -1,8 +1,10 @@
 // The header of a table.
-ghost use Rattle.std.specs.Prelude.{◌≡◌, ◌<◌, ◌==◌, length, IfSome, if◌then◌else◌, Some, None, true, false, Ok, IfOk, IfErr, option_map};
+ghost use Rattle.std.specs.Prelude.{◌≡◌, ◌<◌, ◌≤◌, ◌==◌, length, IfSome, if◌then◌else◌, Some, None, true, false, Ok, IfOk, IfErr, option_map};
 ghost use Rattle.std.specs.FinSet.{empty};
 ghost use Rattle.csv.specs.Records.{fields_of};
+ghost use Rattle.plain_pages.specs.ColumnSpecs.{IsColumnSpec};
 ghost use Rattle.table_text.specs.Headers as headers;
+ghost use Rattle.table_text.specs.Records.{AreShort};
 ghost use Rattle.table_text.specs.Tables.{IsRecordRefusalOf};
 
 use crate::cells::is_utf8;
@@ -80,6 +82,7 @@ fn empty_column(
     name: &[u8],
     column_type: ColumnType,
 ) -> Result<TableColumn, OutOfMemory>
+    requires { IsColumnSpec (headers.spec_of name.now column_type) }
     ensures { IfOk result (λ column. column ≡ headers.empty_column name.now column_type) }
 {
     let spec = ColumnSpec {
@@ -98,6 +101,7 @@ fn add_column(
     earlier: &mut NameSet,
     field: &[u8],
 ) -> Result<bool, OutOfMemory>
+    requires { length field.now ≤ 268435456 }
     ensures added { IfOk result (λ good. good ≡ true → option_map (headers.with_heading columns.old.items earlier.old) (headers.new_heading earlier.old field.now) ≡ Some (columns.new.items, earlier.new)) }
     ensures bad { IfOk result (λ good. good ≡ false → headers.new_heading earlier.old field.now ≡ None) }
 {
@@ -118,6 +122,7 @@ fn add_column(
 /// The columns that a header names, without cells.
 #[tactic(auto, using(crate::proofs::HeaderLemmas::column_step, crate::proofs::HeaderLemmas::column_bad))]
 pub fn read_header(alloc: Global, names: &ByteRecord) -> Result<Vec<TableColumn>, RecordRefusal>
+    requires { AreShort (fields_of names.now) }
     ensures ok { IfOk result (λ columns. headers.columns_read 0 empty (fields_of names.now) ≡ Ok columns.items) }
     ensures err { IfErr result (λ e. IsRecordRefusalOf (headers.columns_read 0 empty (fields_of names.now)) e) }
 {

@@ -52,6 +52,7 @@ invariant_of-self-2 c =
     let next = ready inside.spec cells ls inside.marks.items inside.values.items k.kept in
     let pushed = pushed_cells inside.spec cells (cell_of c.args.cell) ls _ inside.values.items _ _ next one levels c.in_ok-put_value.ensures.put in
     record {
+      named = k.named;
       counted = omega (arith, k.counted, ap length pushed, length-append cells (cell_of c.args.cell ∷ []));
       kept = rw marks (pushed_keeps inside.spec cells (cell_of c.args.cell) ls _ inside.values.items _ _ next one levels c.in_ok-put_value.ensures.put);
       roomy = λ optional. rw c.put_level.ensures.capacity (c.put_mark.ensures.room optional);

@@ -1,7 +1,7 @@
 use Rattle.std.proofs.Common.{◌++◌, sym, ap, ◌∙◌, arith}
 use Rattle.std.proofs.lemmas.List.{append-nil}
 use Rattle.plain_pages.proofs.PageLemmas.{arrays_none, arrays_inside, arrays_turn}
-use Rattle.plain_pages.proofs.plain.array_places.Goals as goal
+use Rattle.plain_pages.proofs.plain.near_arrays.Goals as goal
 
 pub returns-in_default : goal.returns-in_default
 returns-in_default c =

@@ -1,7 +1,7 @@
 use Rattle.std.proofs.Common.{◌≡◌, ◌-◌, ◌≤◌, ◌++◌, length}
 use Rattle.parquet_types.specs.declared.column.ColumnKind.TheVariants.{ByteArray}
 use Rattle.plain_pages.specs.Plain.{places}
-use Rattle.plain_pages.proofs.plain.array_places.Given as goal
+use Rattle.plain_pages.proofs.plain.near_arrays.Given as goal
 
 abbrev pub invariant-loop : goal.invariant-loop
 invariant-loop l =
