@@ -1,11 +1,11 @@
 -- The numbers of a plan's trees are those of the plan, so they fit where the plan's are in range.
-use Rattle.std.proofs.Common.{◌≡◌, ℕ, ◌+◌, ◌<◌, ◌≤◌, ℤ, pos, Bool, true, false, FitsSigned, List, [], ◌∷◌, ◌++◌, length, map as map_list, get_or, below_more, Option, Some, None, refl, ◌∙◌, sym, subst, arith, w16, w32, w64}
+use Rattle.std.proofs.Common.{◌≡◌, ℕ, ◌+◌, ◌<◌, ◌≤◌, ℤ, pos, Bool, true, false, FitsSigned, List, [], ◌∷◌, length, map as map_list, get_or, below_more, Option, Some, None, ◌∙◌, subst, arith, w16, w32, w64}
 use Rattle.std.specs.List.{All}
 use Rattle.std.proofs.lemmas.Int.{ints}
 use Rattle.std.proofs.lemmas.List.{get_or_default}
 use Rattle.std.proofs.lemmas.List.Elements.{All-head, All-tail}
 use Rattle.thrift_compact.specs.Proper.{IsSmall}
-use Rattle.thrift_compact.specs.Tree.{struct, binary, truth, int32, int64, list, Fields, no_fields, field}
+use Rattle.thrift_compact.specs.Tree.{struct, binary, truth, int32, Fields, no_fields}
 use Rattle.parquet_types.specs.declared.column.ColumnKind.{ColumnKind}
 use Rattle.parquet_types.specs.declared.column.ColumnKind.TheVariants as kind
 use Rattle.parquet_types.specs.declared.column.ColumnSpec.{ColumnSpec}
@@ -17,9 +17,9 @@ use Rattle.parquet_types.specs.declared.plan.FooterPlan.{FooterPlan}
 use Rattle.parquet_types.specs.declared.plan.WrittenChunk.{WrittenChunk}
 use Rattle.parquet_types.specs.declared.plan.WrittenGroup.{WrittenGroup}
 use Rattle.parquet_writing.specs.Fitting.{FitsKind, FitsColumn, FitsGroup, FitsFooter}
-use Rattle.parquet_writing.specs.Plans.{where_some, where_true, structs, page_header, first_start, kind_number, fixed_length, repetition, column_meta_data, column_crypto, column_chunk, aes_gcm, algorithm_id, encryption_algorithm, row_group, row_groups, schema_column, schema, signing_algorithm, file_meta_data}
+use Rattle.parquet_writing.specs.Plans.{where_some, where_true, structs, page_header, first_start, kind_number, fixed_length, repetition, column_meta_data, column_crypto, column_chunk, row_group, row_groups, schema_column, signing_algorithm, file_meta_data}
 use Rattle.parquet_meta.specs.Ranges.{HeadInRange, ChunkInRange, GroupInRange, PlanInRange}
-use Rattle.parquet_meta.specs.ReadBack.{NumbersFit, EachFits, FieldsFit}
+use Rattle.parquet_meta.specs.ReadBack.{EachFits, FieldsFit}
 
 -- a fact of each item before an index, and of each item
 pub all_more :

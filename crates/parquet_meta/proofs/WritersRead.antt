@@ -1,20 +1,18 @@
 -- What the writers wrote is read again.
-use Rattle.std.proofs.Common.{◌≡◌, ℕ, List, ◌++◌, length, Some, Result, Ok, Err, IfOk, sym, subst}
+use Rattle.std.proofs.Common.{◌≡◌, ℕ, List, length, Result, Ok, Err, IfOk, sym, subst}
 use Rattle.thrift_compact.specs.Proper.{IsSmall}
 use Rattle.parquet_types.specs.declared.file_meta.AlgorithmMeta.{AlgorithmMeta}
 use Rattle.parquet_types.specs.declared.page_head.DataHead.{DataHead}
-use Rattle.parquet_types.specs.declared.page_head.PageHead.TheVariants.{Data}
 use Rattle.parquet_types.specs.declared.plan.FooterPlan.{FooterPlan}
 use Rattle.parquet_types.specs.declared.plan.WrittenChunk.{WrittenChunk}
-use Rattle.parquet_fields.specs.Calls.{column_meta_at, page_head_at, file_crypto_at}
 use Rattle.parquet_writing.specs.Fitting.{FitsAlgorithm, FitsChunk, FitsFooter}
 use Rattle.parquet_writing.specs.Plans.{page_header, file_crypto_meta_data, column_meta_data, file_meta_data}
 use Rattle.parquet_meta.specs.PlanRules.{IsFooterOf}
 use Rattle.parquet_meta.specs.Ranges.{HeadInRange, ChunkInRange, PlanInRange}
-use Rattle.parquet_meta.specs.ReadBack.{written, chunk_meta, IsPageHeadOf, IsFileCryptoOf, IsColumnMetaOf}
+use Rattle.parquet_meta.specs.ReadBack.{written, IsPageHeadOf, IsFileCryptoOf, IsColumnMetaOf}
 use Rattle.parquet_meta.proofs.PlanNumbers.{page_header_fits, column_meta_fits, file_meta_fits}
 use Rattle.parquet_meta.proofs.PlansKeep.{file_plan_read}
-use Rattle.parquet_meta.proofs.PlansPassed.{passed_plan_read}
+use Rattle.parquet_meta.proofs.PlansPassed.{typed_plan_read}
 use Rattle.parquet_meta.proofs.ReadBackProved.{page_head_read, file_crypto_read, column_meta_read, signing_read}
 
 -- bytes that are those of a value, where a call answered Ok
@@ -36,6 +34,6 @@ footer_back plan fits range =
     let numbers = file_meta_fits plan fits range in
     record {
       keeps = λ keeps place rest. file_plan_read place plan rest fits keeps numbers;
-      passed = λ typed place rest read is. passed_plan_read place plan rest read fits typed numbers is;
+      passed = λ place rest read is. typed_plan_read place plan rest read fits numbers is;
       signing = λ place rest. signing_read place plan rest fits numbers;
     }

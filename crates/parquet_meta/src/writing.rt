@@ -1,4 +1,5 @@
-// The writers of the metadata, each with what is read of the bytes that it wrote.
+// The writers of the metadata, each with what is read of the bytes that it wrote. That the numbers of the struct fit
+// their fields is said by `numbers`, and not asked of the caller: each lies in the range of its type.
 ghost use Rattle.std.specs.Prelude.{◌≡◌, length, IfOk};
 ghost use Rattle.thrift_compact.specs.Proper.{IsSmall};
 ghost use Rattle.thrift_compact.specs.Spelling.{canonical};
@@ -6,7 +7,7 @@ ghost use Rattle.thrift_compact.specs.Tree.{struct as struct_tree};
 ghost use Rattle.parquet_writing.specs.Fitting.{FitsAlgorithm, FitsChunk, FitsFooter};
 ghost use Rattle.parquet_writing.specs.Plans.{page_header, file_crypto_meta_data, column_meta_data, file_meta_data};
 ghost use Rattle.parquet_meta.specs.PlanRules.{IsFooterOf};
-ghost use Rattle.parquet_meta.specs.ReadBack.{IsPageHeadOf, IsFileCryptoOf, IsColumnMetaOf};
+ghost use Rattle.parquet_meta.specs.ReadBack.{NumbersFit, IsPageHeadOf, IsFileCryptoOf, IsColumnMetaOf};
 
 use crate::number_ranges::{chunk_in_range, head_in_range, plan_in_range};
 use parquet_types::{AlgorithmMeta, DataHead, FooterPlan, WrittenChunk};
@@ -17,6 +18,7 @@ use std::alloc::Global;
 pub fn write_page_head(alloc: Global, head: &DataHead) -> Result<Bytes, OutOfMemory>
     ensures bytes { IfOk result (λ bytes. bytes ≡ canonical (struct_tree (page_header head.now))) }
     ensures read_back { IfOk result (λ bytes. IsPageHeadOf head.now bytes) }
+    ensures numbers { NumbersFit (struct_tree (page_header head.now)) }
 {
     head_in_range(head);
     parquet_writing::write_page_head(alloc, head)
@@ -41,6 +43,7 @@ pub fn write_column_meta(alloc: Global, chunk: &WrittenChunk) -> Result<Bytes, O
     requires { FitsChunk chunk.now }
     ensures bytes { IfOk result (λ bytes. bytes ≡ canonical (struct_tree (column_meta_data chunk.now))) }
     ensures read_back { IfOk result (λ bytes. IsColumnMetaOf chunk.now bytes) }
+    ensures numbers { NumbersFit (struct_tree (column_meta_data chunk.now)) }
 {
     chunk_in_range(chunk);
     parquet_writing::write_column_meta(alloc, chunk)
@@ -52,6 +55,7 @@ pub fn write_file_meta(alloc: Global, plan: &FooterPlan) -> Result<Bytes, OutOfM
     requires { FitsFooter plan.now }
     ensures bytes { IfOk result (λ bytes. bytes ≡ canonical (struct_tree (file_meta_data plan.now))) }
     ensures read_back { IfOk result (λ bytes. IsFooterOf plan.now bytes) }
+    ensures numbers { NumbersFit (struct_tree (file_meta_data plan.now)) }
 {
     plan_in_range(plan);
     parquet_writing::write_file_meta(alloc, plan)
