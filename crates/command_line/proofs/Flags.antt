@@ -6,7 +6,7 @@ use Rattle.command_line.specs.declared.verb.Verb.{Verb}
 use Rattle.command_line.specs.Verbs.{is_flag}
 use Rattle.command_line.specs.Options.{has_flag, are_options}
 
-flag_first : (verb : Verb) (first : List ℕ) (rest : List (List ℕ)) → is_flag verb first ≡ true
+pub flag_first : (verb : Verb) (first : List ℕ) (rest : List (List ℕ)) → is_flag verb first ≡ true
     → are_options verb (first ∷ rest) ≡ (not (has_flag verb first rest) && are_options verb rest)
 flag_first verb first [] flag = flag
 flag_first verb first (value ∷ rest) flag = rw flag refl

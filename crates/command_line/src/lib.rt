@@ -4,6 +4,7 @@
 mod aad_prefix;
 mod associated_data;
 mod command;
+mod laws;
 mod options;
 mod values;
 mod verb;
@@ -11,3 +12,4 @@ mod verb;
 pub use aad_prefix::AadPrefix;
 pub use associated_data::AssociatedData;
 pub use command::{Command, command_of};
+pub use laws::options_stand_in_any_order;

@@ -1,10 +1,15 @@
 -- Base64 and hex, decoded and encoded again.
-use Rattle.std.proofs.Common.{◌≡◌, ◌↔◌, ℕ, ◌*◌, ◌%◌, List, length, Option, Some, None, is_some, IsSome, Result, Ok, Err, refl, ap}
+use Rattle.std.proofs.Common.{◌≡◌, ◌↔◌, ℕ, ◌+◌, ◌-◌, ◌*◌, ◌/◌, ◌%◌, ◌≤◌, true, List, ◌++◌, length, replicate, Option, Some, None, is_some, IsSome, IfSome, Result, Ok, Err, refl, ap, subst, sym, ◌∙◌, arith}
+use Rattle.std.proofs.lemmas.List.{length-append, length-replicate}
+use Rattle.std.proofs.lemmas.Str.{IsUtf8-from_ascii}
+use Rattle.std.specs.Str.{IsUtf8}
 use Rattle.std.specs.List.{AllPass}
 use Rattle.std.specs.Result.{result_ok}
 use Rattle.base64.specs.Engines.{standard}
 use Rattle.base64.specs.GeneralPurpose as engine
-use Rattle.base64.proofs.EngineFacts.{decode_of-encode_of, decode_of_iff}
+use Rattle.base64.specs.Rfc4648.{encode_symbols, padding_len}
+use Rattle.base64.proofs.EngineFacts.{decode_of-encode_of, decode_of_iff, decode_of_strict, IsAscii-encode_of}
+use Rattle.base64.proofs.RoundTrip.{length-encode_symbols}
 use Rattle.hex.specs.Hex.{IsBytes, is_hex_digit}
 use Rattle.hex.specs.declared.error.FromHexError.{FromHexError}
 use Rattle.hex.proofs.HexLemmas.{decode_of-encode_lower, decode_of-ok, decode_of-digits}
@@ -25,6 +30,33 @@ base64_exact text bytes small_text small =
       λ decoded. iff.0 (ok_of _ bytes decoded),
       λ encoded. ap result_ok (iff.1 encoded),
     )
+
+pub base64_utf8 : (bytes : List ℕ) → IsUtf8 (base64_text bytes)
+unfolding base64_text
+base64_utf8 bytes = IsUtf8-from_ascii _ (IsAscii-encode_of standard bytes)
+
+four_for_three : (n : ℕ) → (4 * n + 2) / 3 + (3 - n % 3) % 3 ≡ 4 * ((n + 2) / 3)
+four_for_three n = omega arith
+
+pub base64_sized : (bytes : List ℕ) → length (base64_text bytes) ≡ 4 * ((length bytes + 2) / 3)
+unfolding base64_text
+base64_sized bytes =
+    let symbols : List ℕ = encode_symbols standard.encode_table bytes in
+    let padding : List ℕ = replicate (padding_len (length bytes)) standard.padding.value in
+    let long : length (symbols ++ padding) ≡ length symbols + length padding = length-append symbols padding in
+    let of_symbols : length symbols ≡ (4 * length bytes + 2) / 3 = length-encode_symbols standard.encode_table bytes in
+    let of_padding : length padding ≡ (3 - length bytes % 3) % 3 = length-replicate (padding_len (length bytes)) standard.padding.value in
+    let sum : length symbols + length padding ≡ 4 * ((length bytes + 2) / 3) = rw (of_symbols, of_padding) (four_for_three (length bytes)) in
+    long ∙ sum
+
+no_longer : (m n : ℕ) → m ≡ 4 * ((n + 2) / 3) → n ≤ m
+no_longer m n is = omega arith
+
+pub base64_shorter : (text bytes : List ℕ) → IsBytes text → bytes_of_base64 text ≡ Some bytes → length bytes ≤ length text
+unfolding base64_text bytes_of_base64 engine.decoded_of
+base64_shorter text bytes small is =
+    let encoded = decode_of_strict standard text bytes (refl, refl) small (ok_of _ bytes is) in
+    no_longer (length text) (length bytes) (ap length encoded ∙ base64_sized bytes)
 
 pub hex_undone : (bytes : List ℕ) → IsBytes bytes → bytes_of_hex (hex_text bytes) ≡ Some bytes
 unfolding bytes_of_hex hex_text

@@ -1,5 +1,5 @@
 -- Bytes as text: base64 (RFC 4648, section 4, with padding) and hex (section 8).
-use Rattle.std.specs.Prelude.{◌≡◌, ◌↔◌, ℕ, ◌*◌, ◌%◌, List, length, Option, Some, IsSome}
+use Rattle.std.specs.Prelude.{◌≡◌, ◌↔◌, ℕ, ◌+◌, ◌*◌, ◌/◌, ◌%◌, ◌≤◌, List, length, Option, Some, IsSome, IsUtf8}
 use Rattle.std.specs.List.{AllPass}
 use Rattle.std.specs.Result.{result_ok}
 use Rattle.base64.specs.Engines.{standard}
@@ -32,6 +32,17 @@ HexIsUndone = (bytes : List ℕ) → IsBytes bytes → bytes_of_hex (hex_text by
 -- base64 decodes no other text to those bytes
 abbrev pub Base64IsExact : Type 0
 Base64IsExact = (text bytes : List ℕ) → IsBytes text → IsBytes bytes → (bytes_of_base64 text ≡ Some bytes) ↔ (text ≡ base64_text bytes)
+
+-- base64 text is UTF-8, and has four bytes for each three, begun ones included
+abbrev pub Base64IsUtf8 : Type 0
+Base64IsUtf8 = (bytes : List ℕ) → IsUtf8 (base64_text bytes)
+
+abbrev pub Base64IsFourForThree : Type 0
+Base64IsFourForThree = (bytes : List ℕ) → length (base64_text bytes) ≡ 4 * ((length bytes + 2) / 3)
+
+-- decoding makes no text longer
+abbrev pub Base64IsNoLonger : Type 0
+Base64IsNoLonger = (text bytes : List ℕ) → IsBytes text → bytes_of_base64 text ≡ Some bytes → length bytes ≤ length text
 
 -- hex text is an even number of digits, two for each byte
 abbrev pub HexIsDigits : Type 0

@@ -1,4 +1,4 @@
-ghost use Rattle.std.specs.Prelude.{◌≡◌, Some, IsUtf8, IfOk};
+ghost use Rattle.std.specs.Prelude.{◌≡◌, ◌+◌, ◌*◌, ◌/◌, ◌≤◌, Some, length, IsUtf8, IfOk, IfSome};
 ghost use Rattle.json_text.specs.Codings as defined;
 
 use base64::DecodeAllocError;
@@ -14,16 +14,18 @@ pub fn base64_text(alloc: Global, bytes: &[u8]) -> Result<Bytes, OutOfMemory>
     ensures text { IfOk result (λ text. text ≡ defined.base64_text bytes.now) }
     ensures read_back { IfOk result (λ text. defined.bytes_of_base64 text ≡ Some bytes.now) }
     ensures utf8 { IfOk result (λ text. IsUtf8 text) }
+    ensures sized { IfOk result (λ text. length text ≡ 4 * ((length bytes.now + 2) / 3)) }
 {
     let text = STANDARD.encode(alloc, bytes)?;
     Ok(Bytes::from_vec(text.into_bytes()))
 }
 
 /// The bytes of a base64 text; None exactly where it is none. The padding must be there, and the bits after the
-/// last byte must be 0.
+/// last byte must be 0. There are never more bytes than the text has.
 #[tactic(auto, unfolding(crate::specs::Codings::bytes_of_base64, base64::specs::GeneralPurpose::decoded_of))]
 pub fn bytes_of_base64(alloc: Global, text: &[u8]) -> Result<Option<Bytes>, OutOfMemory>
-    ensures { IfOk result (λ bytes. bytes ≡ defined.bytes_of_base64 text.now) }
+    ensures bytes { IfOk result (λ bytes. bytes ≡ defined.bytes_of_base64 text.now) }
+    ensures shorter { IfOk result (λ bytes. IfSome bytes (λ decoded. length decoded ≤ length text.now)) }
 {
     match STANDARD.decode(alloc, text) {
         Ok(bytes) => Ok(Some(Bytes::from_vec(bytes))),

@@ -13,6 +13,8 @@ mod structs_read;
 #[cfg(test)]
 mod texts;
 #[cfg(test)]
+mod written_columns;
+#[cfg(test)]
 mod written_metadata;
 #[cfg(test)]
 mod written_structs;

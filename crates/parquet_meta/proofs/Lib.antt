@@ -3,3 +3,5 @@ pub mod PlansKeep
 pub mod PlansPassed
 pub mod PlansRead
 pub mod ReadBackProved
+pub mod PlanNumbers
+pub mod WritersRead

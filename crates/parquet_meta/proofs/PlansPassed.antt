@@ -1,5 +1,5 @@
 -- What passes the rules of a footer is the plan whose values they were.
-use Rattle.std.proofs.Common.{◌≡◌, ℕ, ◌+◌, ℤ, pos, int_lt, Bool, true, false, if◌then◌else◌, List, [], ◌∷◌, length, map as map_list, Some, Result, Ok, Err, refl, sym, ◌∙◌, ap, arith}
+use Rattle.std.proofs.Common.{◌≡◌, ℕ, ◌+◌, ℤ, pos, int_lt, Bool, true, false, if◌then◌else◌, List, [], ◌∷◌, ◌++◌, length, map as map_list, Some, Result, Ok, Err, refl, sym, ◌∙◌, ap, arith}
 use Rattle.std.specs.FinSet.{empty, insert}
 use Rattle.std.specs.Ordering.{int_eq}
 use Rattle.std.proofs.lemmas.Int.{ints}
@@ -21,8 +21,11 @@ use Rattle.parquet_types.specs.declared.plan.WrittenChunk.{WrittenChunk}
 use Rattle.parquet_types.specs.declared.plan.WrittenGroup.{WrittenGroup}
 use Rattle.footer_rules.specs.FileRules as rule
 use Rattle.parquet_writing.specs.Plans.{kind_number, fixed_length, repetition, file_meta_data}
-use Rattle.parquet_meta.specs.PlanRules.{IsTextOf, AreTyped, planned_chunk, planned_group, planned_groups, planned, PassedPlanIsRead}
-use Rattle.parquet_meta.specs.ReadBack.{written, chunk_key, chunk_part, group_part, group_parts, root_part, column_part, converted_part, plan_fields}
+use Rattle.parquet_meta.specs.Footer.{file_meta_at}
+use Rattle.parquet_writing.specs.Fitting.{FitsFooter}
+use Rattle.thrift_compact.specs.Tree.{struct}
+use Rattle.parquet_meta.specs.PlanRules.{IsTextOf, AreTyped, text_of, typed_column, planned_typed, TypedIsPlanned, planned_chunk, planned_group, planned_groups, PassedPlanIsRead}
+use Rattle.parquet_meta.specs.ReadBack.{NumbersFit, written, chunk_key, chunk_part, group_part, group_parts, root_part, column_part, converted_part, plan_fields}
 use Rattle.parquet_meta.proofs.ReadBackProved.{file_meta_read}
 
 bind_ok : {S T : Type 0} (r : Result S Refusal) (next : S → Result T Refusal) (t : T) → (r >>= next) ≡ Ok t → (s : S) × (r ≡ Ok s) × (next s ≡ Ok t)
@@ -58,16 +61,16 @@ optional_was : (place : Place) (optional found : Bool) → rule.optional_of plac
 optional_was place false found e = value_is false found e
 optional_was place true found e = value_is true found e
 
-text_was : (k : ColumnKind) (text : Bool) → IsTextOf k text → rule.is_text k (converted_part text) ≡ text
-text_was kind.ByteArray false is_one = refl
-text_was kind.ByteArray true is_one = refl
-text_was kind.Boolean text is_one = sym is_one
-text_was kind.Int32 text is_one = sym is_one
-text_was kind.Int64 text is_one = sym is_one
-text_was kind.Int96 text is_one = sym is_one
-text_was kind.Float text is_one = sym is_one
-text_was kind.Double text is_one = sym is_one
-text_was (kind.Fixed length) text is_one = sym is_one
+text_was : (k : ColumnKind) (text : Bool) → rule.is_text k (converted_part text) ≡ text_of k text
+text_was kind.ByteArray false = refl
+text_was kind.ByteArray true = refl
+text_was kind.Boolean text = refl
+text_was kind.Int32 text = refl
+text_was kind.Int64 text = refl
+text_was kind.Int96 text = refl
+text_was kind.Float text = refl
+text_was kind.Double text = refl
+text_was (kind.Fixed length) text = refl
 
 abbrev column_with : ColumnSpec → ColumnKind → Bool → Bool → ColumnSpec
 column_with column k optional text = record { name = column.name; kind = k; optional = optional; text = text }
@@ -79,32 +82,32 @@ named place earlier column k optional =
 abbrev kept : Place → rule.Names → ColumnSpec → ColumnKind → Result ColumnSpec Refusal
 kept place earlier column k = rule.optional_of place (Some (repetition column.optional)) >>= λ optional. named place earlier column k optional
 
-column_was : (place : Place) (earlier : rule.Names) (column found : ColumnSpec) → IsTextOf column.kind column.text → rule.column_of place earlier (column_part column) ≡ Ok found → found ≡ column
-column_was place earlier column found typed e =
+column_was : (place : Place) (earlier : rule.Names) (column found : ColumnSpec) → rule.column_of place earlier (column_part column) ≡ Ok found → found ≡ typed_column column
+column_was place earlier column found e =
     let k = bind_ok (rule.kind_of place (Some (kind_number column.kind)) (fixed_length column.kind)) (kept place earlier column) found e in
     let o = bind_ok (rule.optional_of place (Some (repetition column.optional))) (named place earlier column k.0) found k.2 in
     let n = bind_ok (rule.fresh_name place column.name earlier) (λ new. Ok (column_with column k.0 o.0 (rule.is_text k.0 (converted_part column.text)))) found o.2 in
     value_is (column_with column k.0 o.0 (rule.is_text k.0 (converted_part column.text))) found n.2
     ∙ (ap (λ x. column_with column x o.0 (rule.is_text x (converted_part column.text))) (kind_was place column.kind k.0 k.1)
     ∙ (ap (λ x. column_with column column.kind x (rule.is_text column.kind (converted_part column.text))) (optional_was place column.optional o.0 o.1)
-    ∙ ap (λ x. column_with column column.kind column.optional x) (text_was column.kind column.text typed)))
+    ∙ ap (λ x. column_with column column.kind column.optional x) (text_was column.kind column.text)))
 
-columns_were : (place : Place) (earlier : rule.Names) (columns found : List ColumnSpec) → AreTyped columns → rule.columns_of place earlier (map_list column_part columns) ≡ Ok found → found ≡ columns
-columns_were place earlier [] found typed e = value_is [] found e
-columns_were place earlier (column ∷ columns) found typed e =
+columns_were : (place : Place) (earlier : rule.Names) (columns found : List ColumnSpec) → rule.columns_of place earlier (map_list column_part columns) ≡ Ok found → found ≡ map_list typed_column columns
+columns_were place earlier [] found e = value_is [] found e
+columns_were place earlier (column ∷ columns) found e =
     let others : Result (List ColumnSpec) Refusal = rule.columns_of place (insert earlier column.name) (map_list column_part columns) in
     let one = bind_ok (rule.column_of place earlier (column_part column)) (λ c. others >>= λ cs. Ok (c ∷ cs)) found e in
     let more = bind_ok others (λ cs. Ok (one.0 ∷ cs)) found one.2 in
     value_is (one.0 ∷ more.0) found more.2
-    ∙ (ap (λ c. c ∷ more.0) (column_was place earlier column one.0 typed.0 one.1)
-    ∙ ap (λ cs. column ∷ cs) (columns_were place (insert earlier column.name) columns more.0 typed.1 more.1))
+    ∙ (ap (λ c. c ∷ more.0) (column_was place earlier column one.0 one.1)
+    ∙ ap (λ cs. typed_column column ∷ cs) (columns_were place (insert earlier column.name) columns more.0 more.1))
 
-schema_was : (place : Place) (columns found : List ColumnSpec) → AreTyped columns → rule.schema_of place (root_part (length columns) ∷ map_list column_part columns) ≡ Ok found → found ≡ columns
-schema_was place columns found typed e =
+schema_was : (place : Place) (columns found : List ColumnSpec) → rule.schema_of place (root_part (length columns) ∷ map_list column_part columns) ≡ Ok found → found ≡ map_list typed_column columns
+schema_was place columns found e =
     let elements = map_list column_part columns in
     let counted = bind_ok (rule.same_number place (pos (length columns)) (pos (length elements))) (λ u. rule.not_more place (length elements) >>= λ v. rule.columns_of place empty elements) found e in
     let few = bind_ok (rule.not_more place (length elements)) (λ v. rule.columns_of place empty elements) found counted.2 in
-    columns_were place empty columns found typed few.2
+    columns_were place empty columns found few.2
 
 -- the chunks of a group
 crypto_was : (place : Place) (text column : List ℕ) (crypto found : ChunkCrypto) → rule.chunk_crypto place column (chunk_key text crypto) ≡ Ok found → found ≡ crypto
@@ -183,19 +186,45 @@ few_groups place plan columns = rule.not_more place (length (group_parts 0 plan.
 abbrev rows_in : Place → ℤ → Result (Unit {0}) Refusal
 rows_in place rows = rule.not_negative place name.FileMetaData (pos 3) rows
 
-file_was : (place : Place) (plan : FooterPlan) (found : FileMeta) → AreTyped plan.schema → rule.file_of place (plan_fields plan) ≡ Ok found → found ≡ planned plan
-file_was place plan found typed e =
+file_was : (place : Place) (plan : FooterPlan) (found : FileMeta) → rule.file_of place (plan_fields plan) ≡ Ok found → found ≡ planned_typed plan
+file_was place plan found e =
     let schema = bind_ok (rule.schema_of place (root_part (length plan.schema) ∷ map_list column_part plan.schema)) (λ columns. rows_in place plan.num_rows >>= λ c. few_groups place plan columns) found e in
     let counted = bind_ok (rows_in place plan.num_rows) (λ c. few_groups place plan schema.0) found schema.2 in
     let few = bind_ok (rule.not_more place (length (group_parts 0 plan.groups))) (λ f. grouped place plan schema.0) found counted.2 in
     let groups = bind_ok (rule.groups_of place schema.0 0 (group_parts 0 plan.groups)) (λ groups. summed place plan schema.0 groups) found few.2 in
     let sum = bind_ok (rule.same_rows place (rule.all_rows groups.0) plan.num_rows) (λ s. Ok (file_with plan schema.0 groups.0)) found groups.2 in
     value_is (file_with plan schema.0 groups.0) found sum.2
-    ∙ (ap (λ columns. file_with plan columns groups.0) (schema_was place plan.schema schema.0 typed schema.1)
-    ∙ ap (λ gs. file_with plan plan.schema gs) (groups_were place schema.0 0 plan.groups groups.0 groups.1))
+    ∙ (ap (λ columns. file_with plan columns groups.0) (schema_was place plan.schema schema.0 schema.1)
+    ∙ ap (λ gs. file_with plan (map_list typed_column plan.schema) gs) (groups_were place schema.0 0 plan.groups groups.0 groups.1))
+
+-- whatever the plan, where its footer is read, only byte arrays are text
+pub typed_plan_read :
+    (place : Place) (plan : FooterPlan) (rest : List ℕ) (read : FileMeta × ℕ) → FitsFooter plan → NumbersFit (struct (file_meta_data plan))
+    → file_meta_at place (written (file_meta_data plan) ++ rest) ≡ Ok read → read ≡ (planned_typed plan, length (written (file_meta_data plan)))
+typed_plan_read place plan rest read fits numbers e =
+    let size = length (written (file_meta_data plan)) in
+    let file = bind_ok (rule.file_of place (plan_fields plan)) (λ file. Ok (file, size)) read (sym (file_meta_read place plan rest fits numbers) ∙ e) in
+    value_is (file.0, size) read file.2 ∙ ap (λ f. (f, size)) (file_was place plan file.0 file.1)
+
+text_is : (k : ColumnKind) (text : Bool) → IsTextOf k text → text_of k text ≡ text
+text_is kind.ByteArray text is_one = refl
+text_is kind.Boolean text is_one = sym is_one
+text_is kind.Int32 text is_one = sym is_one
+text_is kind.Int64 text is_one = sym is_one
+text_is kind.Int96 text is_one = sym is_one
+text_is kind.Float text is_one = sym is_one
+text_is kind.Double text is_one = sym is_one
+text_is (kind.Fixed length) text is_one = sym is_one
+
+columns_are : (columns : List ColumnSpec) → AreTyped columns → map_list typed_column columns ≡ columns
+columns_are [] typed = refl
+columns_are (column ∷ columns) typed =
+    ap (λ text. column_with column column.kind column.optional text ∷ map_list typed_column columns) (text_is column.kind column.text typed.0)
+    ∙ ap (λ cs. column ∷ cs) (columns_are columns typed.1)
+
+pub typed_is_planned : TypedIsPlanned
+typed_is_planned plan typed = ap (λ columns. file_with plan columns (planned_groups 0 plan.groups)) (columns_are plan.schema typed)
 
 pub passed_plan_read : PassedPlanIsRead
 passed_plan_read place plan rest read fits typed numbers e =
-    let size = length (written (file_meta_data plan)) in
-    let file = bind_ok (rule.file_of place (plan_fields plan)) (λ file. Ok (file, size)) read (sym (file_meta_read place plan rest fits numbers) ∙ e) in
-    value_is (file.0, size) read file.2 ∙ ap (λ f. (f, size)) (file_was place plan file.0 typed file.1)
+    typed_plan_read place plan rest read fits numbers e ∙ ap (λ file. (file, length (written (file_meta_data plan)))) (typed_is_planned plan typed)

@@ -1,3 +1,4 @@
 pub mod Footer
 pub mod PlanRules
 pub mod ReadBack
+pub mod Ranges

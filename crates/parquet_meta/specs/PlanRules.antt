@@ -17,7 +17,8 @@ use Rattle.parquet_meta.specs.Footer.{file_meta_at}
 use Rattle.footer_rules.specs.FileRules.{Names}
 use Rattle.parquet_writing.specs.Fitting.{FitsFooter}
 use Rattle.parquet_writing.specs.Plans.{file_meta_data}
-use Rattle.parquet_meta.specs.ReadBack.{NumbersFit, written, shown_meta}
+use Rattle.parquet_fields.specs.Calls.{signing_at}
+use Rattle.parquet_meta.specs.ReadBack.{NumbersFit, written, shown_meta, signed_by}
 
 -- values of a fixed length have a byte, and texts are byte arrays
 abbrev pub IsKindOf : ColumnKind → Bool → Type 0
@@ -93,8 +94,43 @@ abbrev pub AreTyped : List ColumnSpec → Type 0
 AreTyped [] = Unit {0}
 AreTyped (column ∷ columns) = IsTextOf column.kind column.text × AreTyped columns
 
+-- a column as it is read: only byte arrays are text
+abbrev pub text_of : ColumnKind → Bool → Bool
+text_of kind.ByteArray text = text
+text_of k text = false
+
+abbrev pub typed_column : ColumnSpec → ColumnSpec
+typed_column column =
+    record { name = column.name; kind = column.kind; optional = column.optional; text = text_of column.kind column.text }
+
+abbrev pub planned_typed : FooterPlan → FileMeta
+planned_typed plan = record {
+  schema = map typed_column plan.schema;
+  num_rows = plan.num_rows;
+  groups = planned_groups 0 plan.groups;
+  algorithm = plan.algorithm;
+  signing_key_metadata = plan.signing_key_metadata;
+}
+
+-- where each text is a byte array, that is the plan
+abbrev pub TypedIsPlanned : Type 0
+TypedIsPlanned = (plan : FooterPlan) → AreTyped plan.schema → planned_typed plan ≡ planned plan
+
 -- whatever the plan: where its footer passes the rules, it is read as the plan
 abbrev pub PassedPlanIsRead : Type 0
 PassedPlanIsRead =
     (place : Place) (plan : FooterPlan) (rest : List ℕ) (read : FileMeta × ℕ) → FitsFooter plan → AreTyped plan.schema → NumbersFit (struct (file_meta_data plan))
     → file_meta_at place (written (file_meta_data plan) ++ rest) ≡ Ok read → read ≡ (planned plan, length (written (file_meta_data plan)))
+
+-- the bytes of a plan's footer, whatever follows them: what a reader finds there, by the rules of a footer
+pub record IsFooterOf (plan : FooterPlan) (bytes : List ℕ) : Type 0 where
+  -- a plan that keeps the rules is read as the plan
+  pub keeps : IsFilePlan plan → (place : Place) (rest : List ℕ) → file_meta_at place (bytes ++ rest) ≡ Ok (planned plan, length bytes)
+  -- and where any plan is read at all, it is read as the plan, of whose columns only byte arrays are text
+  pub passed :
+      (place : Place) (rest : List ℕ) (read : FileMeta × ℕ) → file_meta_at place (bytes ++ rest) ≡ Ok read
+      → read ≡ (planned_typed plan, length bytes)
+  -- how it is signed is read of it without the rules
+  pub signing :
+      (place : Place) (rest : List ℕ) → signing_at place (bytes ++ rest)
+      ≡ Ok (signed_by plan.algorithm plan.signing_key_metadata, length bytes)

@@ -131,6 +131,18 @@ abbrev pub signed_by : Option AlgorithmMeta → Option (List ℕ) → Option Alg
 signed_by None metadata = (None, None)
 signed_by (Some algorithm) metadata = (Some algorithm, metadata)
 
+-- bytes from which a value is read, whatever follows them
+abbrev pub IsPageHeadOf : DataHead → List ℕ → Type 0
+IsPageHeadOf head bytes = (place : Place) (rest : List ℕ) → page_head_at place (bytes ++ rest) ≡ Ok (Data head, length bytes)
+
+abbrev pub IsFileCryptoOf : AlgorithmMeta → List ℕ → List ℕ → Type 0
+IsFileCryptoOf algorithm key_metadata bytes =
+    (place : Place) (rest : List ℕ) → file_crypto_at place (bytes ++ rest)
+    ≡ Ok (record { algorithm = algorithm; key_metadata = Some key_metadata }, length bytes)
+
+abbrev pub IsColumnMetaOf : WrittenChunk → List ℕ → Type 0
+IsColumnMetaOf chunk bytes = (place : Place) (rest : List ℕ) → column_meta_at place (bytes ++ rest) ≡ Ok (chunk_meta chunk)
+
 -- the header of a page is read again, whatever follows it
 abbrev pub PageHeadIsRead : Type 0
 PageHeadIsRead =

@@ -4,6 +4,8 @@
 #![tactic(auto)]
 
 mod footer;
+mod number_ranges;
+mod writing;
 mod writing_laws;
 
 pub use footer::read_file_meta;
@@ -13,5 +15,5 @@ pub use parquet_types::{
     DictionaryHead, FileCrypto, FileMeta, FlatSchema, FooterPlan, GroupList, PageHead, PathList,
     RowGroupMeta, WrittenChunk, WrittenChunks, WrittenGroup, WrittenGroups,
 };
-pub use parquet_writing::{write_column_meta, write_file_crypto, write_file_meta, write_page_head};
+pub use writing::{write_column_meta, write_file_crypto, write_file_meta, write_page_head};
 pub use writing_laws::{what_is_planned_is_read, what_is_written_is_read};

@@ -1,4 +1,4 @@
-ghost use Rattle.parquet_meta.specs.PlanRules.{FilePlanIsRead, PassedPlanIsRead};
+ghost use Rattle.parquet_meta.specs.PlanRules.{FilePlanIsRead, PassedPlanIsRead, TypedIsPlanned};
 ghost use Rattle.parquet_meta.specs.ReadBack.{PageHeadIsRead, FileCryptoIsRead, ColumnMetaIsRead, FileFieldsAreRead, FileMetaIsRead, SigningIsRead};
 
 /// The law that what was written is read again as the values that were written, whatever follows it: the header of a
@@ -15,8 +15,10 @@ pub fn what_is_written_is_read()
 
 /// The law that the footer of a plan that keeps the rules is read, and as what was planned: its columns, its row groups in
 /// their positions with the keys and the metadata of their chunks, its rows, and how it is signed. And the law that the
-/// footer of any plan, where it is read at all, is read as what was planned.
+/// footer of any plan, where it is read at all, is read as what was planned. A plan all of whose texts are byte arrays is
+/// the plan of which only the byte arrays are text.
 pub fn what_is_planned_is_read()
     ensures keeps { FilePlanIsRead }
     ensures passed { PassedPlanIsRead }
+    ensures typed { TypedIsPlanned }
 {}
