@@ -1,3 +1,4 @@
 pub mod Footer
+pub mod FooterShape
 pub mod PlanRules
 pub mod ReadBack
