@@ -1,7 +1,7 @@
 use aes_block::AesKey;
 use key_rights::{
-    ColumnKey, FailingFinder, FooterKey, IdKeys, KeyAnswer, KeyFinder, KeyTrouble, KeysRefusal,
-    NonceOwner, NonceRefusal, NonceSet, keys_are_hex,
+    ColumnKey, FooterKey, IdKeys, KeyAnswer, KeyFinder, KeysRefusal, NonceOwner, NonceRefusal,
+    NonceSet, keys_are_hex,
 };
 use pme_base::Bytes;
 use std::alloc::Global;
@@ -114,10 +114,5 @@ fn keys_are_found_by_metadata_or_path(rt: HostRuntime) -> Result<(), Fail> {
     }
     let found = keys.column_key(rt.alloc(), None, "a")?;
     assert_eq!(rt; first_byte(&found), None);
-    let mut failing = FailingFinder::new();
-    let asked = failing.footer_key(rt.alloc(), None).err();
-    assert_eq!(rt; asked, Some(KeyTrouble::Failed));
-    let asked = failing.column_key(rt.alloc(), None, "a").err();
-    assert_eq!(rt; asked, Some(KeyTrouble::Failed));
     Ok(())
 }

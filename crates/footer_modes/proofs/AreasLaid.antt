@@ -36,7 +36,7 @@ sealed_area key file plain data_end area head each h p =
     }
 
 -- a signed footer fills its area with its signature
-record IsSignedHead (room : ℕ) (algorithm : Option AlgorithmMeta) (metadata : Option (List ℕ)) (size : ℕ) (head : Head) : Type 0 where
+pub record IsSignedHead (room : ℕ) (algorithm : Option AlgorithmMeta) (metadata : Option (List ℕ)) (size : ℕ) (head : Head) : Type 0 where
   pub algorithm_is : algorithm ≡ Some head.algorithm
   pub metadata_is : metadata ≡ head.metadata
   pub size_is : size ≡ head.size
@@ -45,7 +45,7 @@ record IsSignedHead (room : ℕ) (algorithm : Option AlgorithmMeta) (metadata : 
 room_of : (room size : ℕ) → (room == size + 28) ≡ true → room ≡ size + 28
 room_of room size e = grind (arith, nat_tests)
 
-signed_head_is : (at room : ℕ) (algorithm : Option AlgorithmMeta) (metadata : Option (List ℕ)) (size : ℕ) (head : Head)
+pub signed_head_is : (at room : ℕ) (algorithm : Option AlgorithmMeta) (metadata : Option (List ℕ)) (size : ℕ) (head : Head)
     → signed_head at room algorithm metadata size ≡ Ok head → IsSignedHead room algorithm metadata size head
 signed_head_is at room None metadata size head e = cc
 signed_head_is at room (Some algorithm) metadata size head e =

@@ -1,8 +1,9 @@
-mod AreasLaid
+pub mod AreasLaid
 mod Ended
-mod EndsLaid
+pub mod EndsLaid
 mod Lengths
+pub mod Parted
 mod PlannedRead
-mod TailsLaid
+pub mod TailsLaid
 mod Told
-mod WrittenRead
+pub mod WrittenRead

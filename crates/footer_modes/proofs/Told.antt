@@ -1,10 +1,14 @@
 -- From the ends of a told file and its footer area to what comes of the area.
-use Rattle.std.proofs.Common.{◌≡◌, ℕ, List, [], Option, Some, None, unwrap_or, IfSome, Result, Ok, refl, sym, ◌∙◌, ap}
+use Rattle.std.proofs.Common.{◌≡◌, ℕ, List, [], Option, Some, None, unwrap_or, IfSome, IfOk, Result, Ok, Err, refl, sym, ◌∙◌, ap}
 use Rattle.std.specs.FinMap.{get}
 use Rattle.pme_base.specs.declared.refusal.Refusal.{Refusal}
-use Rattle.pme_base.specs.Outside.{Published, bytes_of}
+use Rattle.pme_base.specs.Outside.{Published, AreBytes, HoldBytes, bytes_of}
 use Rattle.pme_base.specs.Steps.{◌>>=◌, Answers}
 use Rattle.footer_modes.specs.declared.ends.Ends.{Ends}
+use Rattle.footer_modes.specs.declared.tail.Tail.{Tail}
+use Rattle.footer_modes.specs.TailOf.{Asks, file_tail}
+use Rattle.footer_modes.specs.IsTail.{IsTail}
+use Rattle.footer_modes.proofs.TailsLaid.{laid_if_read}
 use Rattle.footer_modes.specs.Ends.{IsInside, ends_of, file_ends, area_of}
 
 -- a step on the area is the whole's on a file's bytes
@@ -25,3 +29,16 @@ pub of_told : {T : Type 0} (next : Ends → List ℕ → Result T Refusal) (whol
     → Answers result (next ends area) → IfSome told (λ files. Answers result (whole (get files name)))
 of_told next whole c None name ends area result e i a r = tt
 of_told next whole c (Some files) name ends area result e i a r = of_file next whole c (get files name) ends area result e i a r
+
+-- a tail that was answered of a told file is the one that the file's bytes lay out
+laid_of_file : (asks : Asks) (file : Option (List ℕ)) (tail : Tail) → ((bytes : List ℕ) → file ≡ Some bytes → AreBytes bytes) → file_tail asks file ≡ Ok tail
+    → IfSome file (λ bytes. IsTail asks bytes tail)
+laid_of_file asks None tail each e = tt
+laid_of_file asks (Some bytes) tail each e = laid_if_read asks bytes tail (each bytes refl) e
+
+pub laid_told : (asks : Asks) (told : Option Published) (name : List ℕ) (result : Result Tail Refusal) → IfSome told HoldBytes
+    → IfSome told (λ files. Answers result (file_tail asks (get files name)))
+    → IfOk result (λ tail. IfSome told (λ files. IfSome (get files name) (λ bytes. IsTail asks bytes tail)))
+laid_told asks told name (Err refusal) each answered = tt
+laid_told asks None name (Ok tail) each answered = tt
+laid_told asks (Some files) name (Ok tail) each answered = laid_of_file asks (get files name) tail (each name) (sym (answered refl))

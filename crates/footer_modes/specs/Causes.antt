@@ -1,8 +1,10 @@
 -- Which causes the refusals of each step have, and when a finder of keys is to blame.
-use Rattle.std.specs.Prelude.{◌≡◌, ℕ, ◌≤◌, Bool, true, false, Result, IfErr}
+use Rattle.std.specs.Prelude.{◌≡◌, ℕ, ◌<◌, ◌≤◌, Bool, true, false, Result, IfErr}
 use Rattle.pme_base.specs.declared.refusal.Cause.{Cause}
 use Rattle.pme_base.specs.declared.refusal.Cause.TheVariants.{Truncated, BadLength, BadTag, BadMagic, BadMaterial, NoMaterial, WrapTag, KeyLength, BadFooterLength, NotEncrypted, PrefixNeeded, PrefixUnused, PrefixDiffers, FooterKeyMissing, AlgorithmRefused, TooLarge, NoFile, ReadFault, ServiceFault, OutOfMemory}
 use Rattle.pme_base.specs.declared.refusal.Refusal.{Refusal}
+use Rattle.pme_base.specs.declared.place.Place.{Place}
+use Rattle.pme_base.specs.Refusals.{pair_refusal}
 use Rattle.pme_base.specs.Counts.{Rose}
 use Rattle.key_rights.specs.Finding.{is_key_cause}
 use Rattle.parquet_fields.specs.Causes.{is_struct_cause}
@@ -82,3 +84,9 @@ is_metadata_cause cause = is_head_cause cause
 pub record FinderFails {T : Type 0} (before now : ℕ) (result : Result T Refusal) : Type 0 where
   pub later : before ≤ now
   pub failed : IfErr result (λ refusal. refusal.cause ≡ ServiceFault → Rose before now)
+
+-- a file gave fewer bytes from this offset on than its size told, where bytes of this place were read
+pub record IsShortRead (place : Place) (at needed : ℕ) (refusal : Refusal) : Type 0 where
+  pub there : ℕ
+  pub fewer : there < needed
+  pub is : refusal ≡ pair_refusal Truncated place at needed there

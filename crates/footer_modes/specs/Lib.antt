@@ -1,5 +1,6 @@
 pub mod Causes
 pub mod Ends
+pub mod FooterParts
 pub mod IsTail
 pub mod PlannedRead
 pub mod TailOf

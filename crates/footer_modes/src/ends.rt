@@ -4,7 +4,8 @@ ghost use Rattle.std.specs.FinMap.{get};
 ghost use Rattle.pme_base.specs.Outside.{bytes_of};
 ghost use Rattle.pme_base.specs.Refusals.{is_free};
 ghost use Rattle.pme_base.specs.Steps.{Answers, Quiet, ReadsFail};
-ghost use Rattle.footer_modes.specs.Causes.{is_ends_cause, is_reading_cause};
+ghost use Rattle.pme_base.specs.declared.refusal.Cause.TheVariants.{Truncated};
+ghost use Rattle.footer_modes.specs.Causes.{is_ends_cause, is_reading_cause, IsShortRead};
 ghost use Rattle.footer_modes.specs.Ends as defined;
 
 use crate::mode::FooterMode;
@@ -61,9 +62,9 @@ fn ends_at<F: Files>(files: &mut F, name: &str, size: u64) -> Result<Ends, Refus
         return Err(refusal_at(Cause::Truncated, Place::file(), 0, detail));
     }
     let mut front = [0; 4];
-    read_exactly(files, name, 0, &mut front)?;
+    read_exactly(files, name, Place::file(), 0, &mut front)?;
     let mut back = [0; 8];
-    read_exactly(files, name, size - 8, &mut back)?;
+    read_exactly(files, name, Place::file(), size - 8, &mut back)?;
     ends_within(size, &front, &back)
 }
 
@@ -141,7 +142,7 @@ fn area_at(size: u64, mode: FooterMode, count: u32) -> Result<Ends, Refusal>
     })
 }
 
-/// Reads the footer area.
+/// Reads the footer area. Where the file gives fewer bytes of it than its size told, that is Truncated at the footer.
 pub(crate) fn area_of<F: Files>(
     alloc: Global,
     files: &mut F,
@@ -151,6 +152,7 @@ pub(crate) fn area_of<F: Files>(
     requires small { ends.now.area ≤ 16842752 }
     ensures told { IfOk result (λ area. IfSome (F.published files.old) (λ told. defined.IsInside ends.now (bytes_of told name.now) → area.items ≡ defined.area_of ends.now (bytes_of told name.now))) }
     ensures size { IfOk result (λ area. vec_len area ≡ ends.now.area) }
+    ensures short { IfErr result (λ refusal. refusal.cause ≡ Truncated → IsShortRead defined.footer_place ends.now.data_end ends.now.area refusal) }
     ensures free { IfErr result (λ refusal. IfSome (F.published files.old) (λ told. defined.IsInside ends.now (bytes_of told name.now) → is_free refusal.cause ≡ true)) }
     ensures published { F.published files.new ≡ F.published files.old }
     ensures pending { OnOk result (F.pending files.new ≡ F.pending files.old) }
@@ -162,7 +164,8 @@ pub(crate) fn area_of<F: Files>(
         Ok(area) => area,
         Err(OutOfMemory) => return Err(plain_refusal(Cause::OutOfMemory)),
     };
-    match read_exactly(files, name, ends.data_end, area.as_mut_slice()) {
+    let place = Place::footer();
+    match read_exactly(files, name, place, ends.data_end, area.as_mut_slice()) {
         Ok(()) => Ok(area),
         Err(refusal) => Err(refusal),
     }

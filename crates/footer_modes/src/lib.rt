@@ -15,7 +15,7 @@ mod tail;
 mod tail_laws;
 mod writing;
 
-pub use laws::tails_are_laid_out;
+pub use laws::{footer_parts_fix_footers, tails_are_laid_out};
 pub use mode::FooterMode;
 pub use reader::{footer_key_metadata, read_tail};
 pub use tail::{ReadOptions, Tail};

@@ -5,6 +5,7 @@ ghost use Rattle.std.specs.Option.{option_copied};
 ghost use Rattle.pme_base.specs.Steps.{Answers, Quiet, ReadsFail};
 ghost use Rattle.footer_modes.specs.Causes.{is_head_cause, is_ends_cause, is_metadata_cause, is_tail_cause, is_area_cause, FinderFails};
 ghost use Rattle.footer_modes.specs.Ends.{footer_place};
+ghost use Rattle.footer_modes.specs.IsTail.{IsTail};
 ghost use Rattle.footer_modes.specs.TailOf as defined;
 
 use crate::associated::aad_of;
@@ -23,7 +24,8 @@ use std::alloc::Global;
 /// A reader supplies the prefix of the associated data exactly where the file asks for it; a file that stores one takes
 /// the same one beside it. The prefix has at most 1,024 bytes. The refusals come in the order in which the file is read:
 /// its ends, the front of the footer area, the algorithm, the associated data, the key, the tag, the footer's fields and
-/// rules. At most 16,842,764 bytes are read.
+/// rules. At most 16,842,764 bytes are read. A file that gives fewer bytes of the footer area than its size told is
+/// Truncated at the footer.
 pub fn read_tail<F: Files, K: KeyFinder>(
     alloc: Global,
     files: &mut F,
@@ -35,6 +37,7 @@ pub fn read_tail<F: Files, K: KeyFinder>(
     requires short_prefix { IfSome (option_copied prefix) (λ supplied. length supplied ≤ 1024) }
     requires small_limit { options.now.module_limit ≤ 268435456 }
     ensures answer { IfSome (F.published files.old) (λ told. Answers result (defined.file_tail (defined.asks_of (K.answer finder.old) (option_copied prefix.entry) options.now.gcm_only) (get told name.now))) }
+    ensures laid_out { IfOk result (λ tail. IfSome (F.published files.old) (λ told. IfSome (get told name.now) (λ bytes. IsTail (defined.asks_of (K.answer finder.old) (option_copied prefix.entry) options.now.gcm_only) bytes tail))) }
     ensures published { F.published files.new ≡ F.published files.old }
     ensures pending { OnOk result (F.pending files.new ≡ F.pending files.old) }
     ensures given { F.given files.new ≤ F.given files.old + 16842764 }

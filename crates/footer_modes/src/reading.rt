@@ -2,7 +2,8 @@ ghost use Rattle.std.specs.Prelude.{◌≡◌, ◌+◌, ◌<◌, ◌≤◌, ◌^
 ghost use Rattle.pme_base.specs.Outside.{bytes_of};
 ghost use Rattle.pme_base.specs.Refusals.{is_free};
 ghost use Rattle.pme_base.specs.Steps.{ReadsFail};
-ghost use Rattle.footer_modes.specs.Causes.{is_reading_cause};
+ghost use Rattle.pme_base.specs.declared.refusal.Cause.TheVariants.{Truncated};
+ghost use Rattle.footer_modes.specs.Causes.{is_reading_cause, IsShortRead};
 ghost use Rattle.footer_modes.specs.Ends as defined;
 
 use pme_base::{
@@ -20,15 +21,17 @@ pub(crate) fn read_trouble(trouble: Trouble) -> Refusal
 }
 
 /// Fills `into` with bytes of the file `name` from offset `at` on. A file that gave fewer than its size told is
-/// Truncated.
+/// Truncated at `place`, which is what these bytes hold.
 pub(crate) fn read_exactly<F: Files>(
     files: &mut F,
     name: &str,
+    place: Place,
     at: u64,
     into: &mut [u8],
 ) -> Result<(), Refusal>
     ensures told { OnOk result (IfSome (F.published files.old) (λ told. into.new ≡ take (length into.new) (drop at (bytes_of told name.now)))) }
     ensures whole { IfErr result (λ refusal. IfSome (F.published files.old) (λ told. length (bytes_of told name.now) < 2 ^ 64 → at + length into.new ≤ length (bytes_of told name.now) → is_free refusal.cause ≡ true)) }
+    ensures short { IfErr result (λ refusal. refusal.cause ≡ Truncated → IsShortRead place at (length into.new) refusal) }
     ensures published { F.published files.new ≡ F.published files.old }
     ensures pending { OnOk result (F.pending files.new ≡ F.pending files.old) }
     ensures given { F.given files.new ≤ F.given files.old + length into.new }
@@ -40,7 +43,7 @@ pub(crate) fn read_exactly<F: Files>(
         Ok(count) if count == needed => Ok(()),
         Ok(count) => {
             let detail = Detail::Pair(needed as u64, count as u64);
-            Err(refusal_at(Cause::Truncated, Place::file(), at, detail))
+            Err(refusal_at(Cause::Truncated, place, at, detail))
         }
         Err(trouble) => Err(read_trouble(trouble)),
     }

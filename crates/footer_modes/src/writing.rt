@@ -1,5 +1,5 @@
 // The end of a file, written.
-ghost use Rattle.std.specs.Prelude.{◌≡◌, ◌+◌, ◌≤◌, ◌↔◌, ◌++◌, ◌||◌, true, nat_lt, length, codes, OnOk, OnErr, IsErrOf};
+ghost use Rattle.std.specs.Prelude.{◌≡◌, ◌+◌, ◌≤◌, ◌↔◌, ◌++◌, ◌||◌, true, nat_lt, length, take, codes, OnOk, OnErr, IsErrOf};
 ghost use Rattle.std.specs.Int.{w32, to_le_bytes};
 ghost use Rattle.footer_modes.specs.Written as defined;
 
@@ -26,10 +26,10 @@ const SIGNATURE: usize = 28;
 /// FileCryptoMetaData, the sealed module of the footer's bytes, the length of both, and `PARE`.
 ///
 /// A footer of more than 16,777,216 bytes, and one whose area with `crypto` has more than 16,842,752 bytes, is TooLarge.
-/// A refusal leaves `into` unchanged.
+/// A refusal leaves `into` unchanged. The bytes are written in `into` itself, so that nothing is taken from `_alloc`.
 #[tactic(auto, using(crate::proofs::Lengths::too_large_encrypted))]
 pub fn write_encrypted_tail(
-    alloc: Global,
+    _alloc: Global,
     key: &AesKey,
     aad: &FileAad,
     nonce: &[u8; 12],
@@ -44,15 +44,14 @@ pub fn write_encrypted_tail(
     if is_too_large(footer, crypto.len() + MODULE_OVERHEAD) {
         return Err(ModuleRefusal::TooLarge);
     }
-    let mut tail = match Bytes::copy_of(alloc, crypto) {
-        Ok(tail) => tail,
-        Err(_) => return Err(ModuleRefusal::OutOfMemory),
-    };
-    write_footer(key, aad, nonce, footer, &mut tail)?;
-    let length = tail.len() as u32;
-    added(&length.to_le_bytes(), &mut tail)?;
-    added(b"PARE", &mut tail)?;
-    added(tail.as_slice(), into)
+    let before = into.len();
+    match extend_by_encrypted(key, aad, nonce, crypto, footer, into) {
+        Ok(()) => Ok(()),
+        Err(refusal) => {
+            into.truncate(before);
+            Err(refusal)
+        }
+    }
 }
 
 /// Adds all that follows the data of a file with a signed footer to the end of `into`: the footer's bytes, the nonce and
@@ -90,8 +89,29 @@ fn is_too_large(footer: &[u8], more: usize) -> bool
     footer.len() > LONGEST_FOOTER as usize || more > LONGEST_AREA - footer.len()
 }
 
+/// Adds an encrypted footer area, its length and `PARE`. A refusal leaves the bytes that were there in front.
+fn extend_by_encrypted(
+    key: &AesKey,
+    aad: &FileAad,
+    nonce: &[u8; 12],
+    crypto: &[u8],
+    footer: &[u8],
+    into: &mut Bytes,
+) -> Result<(), ModuleRefusal>
+    requires short { length footer.now ≤ 16777216 }
+    requires small { length crypto.now ≤ 16842720 }
+    ensures free { IsErrOf result ModuleRefusal.TooLarge → ⊥ }
+    ensures appended { OnOk result (into.new ≡ into.old ++ defined.encrypted_tail key.now aad.now nonce.now crypto.now footer.now) }
+    ensures kept { OnErr result (take (length into.old) into.new ≡ into.old) }
+{
+    added(crypto, into)?;
+    write_footer(key, aad, nonce, footer, into)?;
+    let length = (crypto.len() + MODULE_OVERHEAD + footer.len()) as u32;
+    added(&length.to_le_bytes(), into)?;
+    added(b"PARE", into)
+}
+
 /// Adds the module of a footer.
-#[tactic(auto, using(crate::proofs::Lengths::module_added))]
 fn write_footer(
     key: &AesKey,
     aad: &FileAad,
@@ -102,7 +122,7 @@ fn write_footer(
     requires short { length footer.now ≤ 16777216 }
     ensures free { IsErrOf result ModuleRefusal.TooLarge → ⊥ }
     ensures appended { OnOk result (into.new ≡ defined.encrypted_area key.now aad.now nonce.now into.old footer.now) }
-    ensures long { OnOk result (length into.new ≡ length into.old + (32 + length footer.now)) }
+    ensures unchanged { OnErr result (into.new ≡ into.old) }
 {
     let mut associated = [0; 1095];
     let count = aad.write_aad(&Place::footer(), &mut associated);

@@ -1,1 +1,2 @@
 pub mod FileRules
+pub mod Shape

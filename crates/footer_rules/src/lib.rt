@@ -5,6 +5,8 @@
 mod column_rules;
 mod file_rules;
 mod group_rules;
+mod shape_laws;
 mod value_rules;
 
 pub use file_rules::file_of;
+pub use shape_laws::passed_footers_are_shaped;

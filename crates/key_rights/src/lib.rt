@@ -5,14 +5,12 @@
 ghost use Rattle.key_rights.specs.KeysFile.{KeysAreHex};
 ghost use Rattle.key_rights.specs.Nonces.{DistinctEntries, NoneTaken, OneTaken};
 
-mod failing_finder;
 mod finder;
 mod id_key;
 mod id_keys;
 mod keys;
 mod nonces;
 
-pub use failing_finder::FailingFinder;
 pub use finder::{KeyAnswer, KeyFinder, KeyTrouble};
 pub use id_key::IdKey;
 pub use id_keys::{IdKeys, KeysRefusal};

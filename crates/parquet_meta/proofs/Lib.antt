@@ -1,3 +1,4 @@
+pub mod FooterShaped
 pub mod LaidSpelled
 pub mod PlansKeep
 pub mod PlansPassed

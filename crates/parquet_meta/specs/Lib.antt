@@ -1,4 +1,5 @@
 pub mod Footer
+pub mod FooterShape
 pub mod PlanRules
 pub mod ReadBack
 pub mod Ranges

@@ -4,11 +4,13 @@
 #![tactic(auto)]
 
 mod footer;
+mod footer_laws;
 mod number_ranges;
 mod writing;
 mod writing_laws;
 
 pub use footer::read_file_meta;
+pub use footer_laws::read_footers_are_shaped;
 pub use parquet_fields::{read_column_meta, read_file_crypto, read_page_head, read_signing};
 pub use parquet_types::{
     AlgorithmMeta, ChunkCrypto, ChunkList, ChunkMeta, ColumnKind, ColumnMeta, ColumnSpec, DataHead,

@@ -5,12 +5,14 @@ use Rattle.std.specs.FinMap.{get}
 use Rattle.pme_base.specs.declared.refusal.Cause.{Cause}
 use Rattle.pme_base.specs.declared.refusal.Cause.TheVariants.{OutOfMemory, ReadFault, WriteFault, RandomFault, ServiceFault}
 use Rattle.pme_base.specs.declared.refusal.Refusal.{Refusal}
-use Rattle.pme_base.specs.Outside.{Published}
+use Rattle.pme_base.specs.Outside.{Published, HoldBytes, followed_by}
 use Rattle.pme_base.specs.Refusals.{is_free}
 use Rattle.pme_base.specs.Steps.{◌>>=◌, Answers}
 use Rattle.key_rights.specs.declared.id_key.IdKey.{IdKey}
-use Rattle.key_rights.specs.KeysFile.{keys_of_file}
+use Rattle.key_rights.specs.KeysFile.{keys_of_file, answer_by_id}
 use Rattle.footer_modes.specs.declared.tail.Tail.{Tail}
+use Rattle.footer_modes.specs.TailOf.{asks_of}
+use Rattle.footer_modes.proofs.TailsLaid.{laid_if_read}
 use Rattle.pme_cli.specs.declared.stop.Stop.{Stop}
 use Rattle.pme_cli.specs.Stops.{about, stop_of}
 use Rattle.pme_cli.specs.SmallFile.{small_bytes, small_size}
@@ -19,18 +21,32 @@ use Rattle.pme_cli.specs.TailText.{tail_text}
 use Rattle.pme_cli.specs.TextCommand.{TextCompletes, GivesText, Printed, stopped_by}
 use Rattle.pme_cli.specs.FooterCommand.{FooterWords, FooterDone, FooterCompletes, IsReadable, footer_text, tail_with, text_with, is_tail_text_cause, is_footer_cause}
 
--- a text that was printed is that of a tail
-pub footer_done : (words : FooterWords) (told : Option Published) (before after : Option (List ℕ)) (outcome : Result Unit Stop)
+-- a text that was printed is that of a tail, which the bytes of the file lay out
+pub footer_done : (words : FooterWords) (told : Option Published) (before after : Option (List ℕ)) (outcome : Result Unit Stop) → IfSome told HoldBytes
     → OnOk outcome (IfSome told (λ files. Printed (footer_text words files) before after))
     → OnOk outcome (IfSome told (λ files. FooterDone words files before after))
-footer_done words told before after (Err stop) printed = tt
-footer_done words None before after (Ok _) printed = tt
-footer_done words (Some files) before after (Ok _) printed = loaded (loaded_keys (get files words.keys)) refl printed
+footer_done words told before after (Err stop) each printed = tt
+footer_done words None before after (Ok _) each printed = tt
+footer_done words (Some files) before after (Ok _) each printed = loaded (loaded_keys (get files words.keys)) refl printed
   where
+    laid : (keys : List IdKey) → loaded_keys (get files words.keys) ≡ Ok keys → (tail : Tail) (file : Option (List ℕ)) → get files words.file ≡ file
+        → tail_with keys words.prefix words.gcm_only file ≡ Ok tail → after ≡ followed_by (tail_text tail words.prefix) before → FooterDone words files before after
+    laid keys there tail None is e p = absurd cc
+    laid keys there tail (Some bytes) is e p = record {
+      keys = keys;
+      bytes = bytes;
+      tail = tail;
+      there = is;
+      laid_out = laid_if_read (asks_of (answer_by_id keys) words.prefix words.gcm_only) bytes tail (each words.file bytes is) e;
+      loaded = there;
+      read = ap (tail_with keys words.prefix words.gcm_only) is ∙ e;
+      printed = p;
+    }
+
     read : (keys : List IdKey) → loaded_keys (get files words.keys) ≡ Ok keys → (tail : Result Tail Refusal) → tail_with keys words.prefix words.gcm_only (get files words.file) ≡ tail
         → Printed (about words.file (tail >>= (λ t. Ok (tail_text t words.prefix)))) before after → FooterDone words files before after
     read keys there (Err refusal) e p = absurd p
-    read keys there (Ok tail) e p = record { keys = keys; tail = tail; loaded = there; read = e; printed = p }
+    read keys there (Ok tail) e p = laid keys there tail (get files words.file) refl e p
 
     loaded : (keys : Result (List IdKey) Refusal) → loaded_keys (get files words.keys) ≡ keys
         → Printed (about words.keys keys >>= (λ k. about words.file (text_with k words.prefix words.gcm_only (get files words.file)))) before after

@@ -10,6 +10,7 @@ use Rattle.key_rights.specs.declared.id_key.IdKey.{IdKey}
 use Rattle.key_rights.specs.KeysFile.{keys_of_file, answer_by_id}
 use Rattle.footer_modes.specs.declared.tail.Tail.{Tail}
 use Rattle.footer_modes.specs.Causes.{is_tail_cause}
+use Rattle.footer_modes.specs.IsTail.{IsTail}
 use Rattle.footer_modes.specs.TailOf.{asks_of, tail_of, file_tail}
 use Rattle.pme_cli.specs.declared.stop.Stop.{Stop}
 use Rattle.pme_cli.specs.Stops.{about}
@@ -52,10 +53,14 @@ abbrev pub is_footer_cause : Cause → Bool
 is_footer_cause WriteFault = true
 is_footer_cause cause = is_tail_text_cause cause
 
--- the keys were loaded, the tail was read with them, and its text was printed
+-- the keys were loaded, the tail was read with them, the file ends with this tail as the format lays it out, and its text
+-- was printed
 pub record FooterDone (words : FooterWords) (files : Published) (before after : Option (List ℕ)) : Type 0 where
   pub keys : List IdKey
+  pub bytes : List ℕ
   pub tail : Tail
+  pub there : get files words.file ≡ Some bytes
+  pub laid_out : IsTail (asks_of (answer_by_id keys) words.prefix words.gcm_only) bytes tail
   pub loaded : loaded_keys (get files words.keys) ≡ Ok keys
   pub read : tail_with keys words.prefix words.gcm_only (get files words.file) ≡ Ok tail
   pub printed : after ≡ followed_by (tail_text tail words.prefix) before

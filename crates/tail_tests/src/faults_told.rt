@@ -1,7 +1,7 @@
 // What is told where reading or a finder of keys fails, and the metadata of the footer's key.
+use crate::failing_finder::FailingFinder;
 use crate::sample_files::{COUNTER, ENCRYPTED, SIGNED, bytes_of};
 use footer_modes::{ReadOptions, footer_key_metadata, read_tail};
-use key_rights::FailingFinder;
 use pme_base::{Bytes, Cause, MemFiles, plain_refusal};
 use std::test::Fail;
 

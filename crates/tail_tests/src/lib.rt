@@ -3,6 +3,7 @@
 
 #[cfg(test)]
 mod damaged_tails;
+mod failing_finder;
 #[cfg(test)]
 mod faults_told;
 mod refusing_finder;
@@ -13,4 +14,5 @@ mod tail_lines;
 #[cfg(test)]
 mod writing;
 
+pub use failing_finder::FailingFinder;
 pub use refusing_finder::{KeyFault, RefusingFinder};

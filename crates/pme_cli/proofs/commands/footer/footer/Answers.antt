@@ -12,7 +12,7 @@ returns-clause-causes g c =
 pub returns-clause-answered : goal.returns-clause-answered
 returns-clause-answered g c =
     let answered = c.print_text.ensures.answered _ _ c.footer_text-text.ensures.gives in
-    record { answered = answered; done = footer_done _ _ _ _ _ answered.printed }
+    record { answered = answered; done = footer_done _ _ _ _ _ (g.met.F.Files.bytes c.args.files.now) answered.printed }
 
 pub returns-clause-complete : goal.returns-clause-complete
 returns-clause-complete g c =

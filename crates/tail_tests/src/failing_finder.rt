@@ -1,8 +1,9 @@
+// A finder whose service fails, for tests of what is told of such a fault.
 ghost use Rattle.std.specs.Prelude.{◌≡◌, Err, IfOk};
 ghost use Rattle.key_rights.specs.Finding.{KeyFaults};
 ghost use Rattle.key_rights.specs.declared.finder.KeyTrouble.TheVariants as trouble;
 
-use crate::finder::{KeyAnswer, KeyFinder, KeyTrouble};
+use key_rights::{KeyAnswer, KeyFinder, KeyTrouble};
 use std::alloc::Global;
 
 /// A finder whose every call fails, for tests of what stands on finders.
