@@ -14,7 +14,8 @@ use Rattle.crypto_module.specs.Frames.{ctr_size}
 use Rattle.crypto_module.specs.Modules.{IsCtr, HoldsCtr, nonce_of, ctr_cipher_of}
 use Rattle.crypto_module.specs.Opening.{opened_ctr, IsCtrOpened, AreBytes}
 use Rattle.crypto_module.proofs.Sizes.{IsCtrSized, ctr_sized_is, ctr_sized_from}
-use Rattle.crypto_module.proofs.Sealed.{bind_ok, take_length, below_take}
+use Rattle.pme_base.proofs.Chain.{bind_ok}
+use Rattle.crypto_module.proofs.Sealed.{take_length, below_take}
 use Rattle.crypto_module.proofs.InPlace.{nonce_part}
 
 ctr_cut : (m : List ℕ) → m ≡ take 4 m ++ (nonce_of m ++ ctr_cipher_of m)

@@ -18,7 +18,8 @@ use Rattle.crypto_module.specs.Frames.{gcm_size}
 use Rattle.crypto_module.specs.Modules.{IsGcm, HoldsGcm, nonce_of, cipher_of, stored_of}
 use Rattle.crypto_module.specs.Opening.{unsealed_whole, opened, IsOpened}
 use Rattle.crypto_module.proofs.Sizes.{IsSized, sized_is}
-use Rattle.crypto_module.proofs.Sealed.{when_true, when_false, front_sealed, holds, opened_if_held}
+use Rattle.pme_base.proofs.Chain.{when_true, when_false}
+use Rattle.crypto_module.proofs.Sealed.{front_sealed, holds, opened_if_held}
 
 -- the ciphertext of the module at the front of bytes
 pub cipher_part : (size : ℕ) (bytes : List ℕ) → 32 ≤ size → size ≤ length bytes → take (size - 16 - 16) (drop 16 bytes) ≡ cipher_of (take size bytes)

@@ -7,8 +7,7 @@ use Rattle.std.specs.Int.{w32, to_le_bytes, from_le_bytes}
 use Rattle.std.specs.Str.{bytes_eq}
 use Rattle.pme_base.specs.declared.place.Place.{Place}
 use Rattle.pme_base.specs.Steps.{◌>>=◌}
-pub use Rattle.pme_base.proofs.Chain.{bind_ok, when_true, when_false}
-use Rattle.pme_base.proofs.Chain.{tested}
+use Rattle.pme_base.proofs.Chain.{bind_ok, tested, when_true}
 use Rattle.gcm_seal.specs.Gcm.{gctr, tag_of}
 use Rattle.gcm_seal.proofs.Texts.{length-gctr, length-tag_of, gctr_twice}
 use Rattle.crypto_module.specs.Frames.{gcm_size}

@@ -1,6 +1,6 @@
 -- A module's ciphertext that comes in pieces: it is hashed piece by piece, and once its tag was right it is opened piece
 -- by piece.
-use Rattle.std.specs.Prelude.{◌≡◌, ℕ, ◌+◌, Bool, List, length, if◌then◌else◌, Result, Ok, Err}
+use Rattle.std.specs.Prelude.{◌≡◌, ℕ, ◌+◌, List, length, if◌then◌else◌, Result, Ok, Err}
 use Rattle.std.specs.Str.{bytes_eq}
 use Rattle.gcm_seal.specs.Gcm.{tag_of}
 use Rattle.gcm_seal.specs.Hashing.{Hashed, IsHashOf}

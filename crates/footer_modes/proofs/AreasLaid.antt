@@ -10,7 +10,8 @@ use Rattle.gcm_seal.specs.Gcm.{seal}
 use Rattle.gcm_seal.proofs.Texts.{length-tag_of}
 use Rattle.module_aad.specs.Aad.{aad}
 use Rattle.crypto_module.specs.Opening.{AreBytes}
-use Rattle.crypto_module.proofs.Sealed.{bind_ok, when_true, sealed_if_opened, opened_if_held, same_bytes}
+use Rattle.pme_base.proofs.Chain.{bind_ok, bind_at, tested, when_true}
+use Rattle.crypto_module.proofs.Sealed.{sealed_if_opened, opened_if_held, same_bytes}
 use Rattle.parquet_types.specs.declared.file_meta.AlgorithmMeta.{AlgorithmMeta}
 use Rattle.parquet_fields.specs.Calls.{file_crypto_at, signing_at, split_signing}
 use Rattle.footer_modes.specs.declared.head.Head.{Head}
@@ -19,7 +20,7 @@ use Rattle.footer_modes.specs.declared.mode.FooterMode.TheVariants.{Encrypted, S
 use Rattle.footer_modes.specs.Ends.{footer_place}
 use Rattle.footer_modes.specs.TailOf.{sealed_head, signed_head, head_of, signature, checked, checked_area, plain_of}
 use Rattle.footer_modes.specs.IsTail.{Sealing, IsSealedArea, IsSignedArea, IsArea}
-use Rattle.footer_modes.proofs.EndsLaid.{tested, step, below_drop}
+use Rattle.footer_modes.proofs.EndsLaid.{below_drop}
 
 -- how a head seals or signs
 abbrev pub sealing : List ℕ → List ℕ → Head → Sealing
@@ -115,7 +116,7 @@ signed_reads s plain front data_end area laid =
     let judged : checked_area s.key (aad s.file footer_place) (data_end + front) front area ≡ checked (data_end + front) tag tag plain =
     λ i. checked (data_end + front) (signature s.key (aad s.file footer_place) (nonce_is i) (front_of i)) (tag_is i) (front_of i) in
     record {
-      head = step (split_signing (signing_at footer_place area)) (Some s.algorithm, s.metadata, front) _ read ∙ when_true (length area == front + 28) _ _ fits;
+      head = bind_at (split_signing (signing_at footer_place area)) _ (Some s.algorithm, s.metadata, front) read ∙ when_true (length area == front + 28) _ _ fits;
       bytes = judged ∙ when_true (bytes_eq tag tag) _ _ (same_bytes tag);
     }
 

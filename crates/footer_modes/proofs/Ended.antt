@@ -6,14 +6,12 @@ use Rattle.std.proofs.lemmas.List.{take_at, drop_at, take_all, take-append-le, l
 use Rattle.std.proofs.lemmas.Nat.{from_le_bytes-to_le_bytes_4}
 use Rattle.std.specs.Int.{w32, to_le_bytes, from_le_bytes}
 use Rattle.pme_base.specs.Steps.{◌>>=◌}
+use Rattle.pme_base.proofs.Chain.{bind_at}
 use Rattle.footer_modes.specs.declared.ends.Ends.{Ends}
 use Rattle.footer_modes.specs.declared.mode.FooterMode.{FooterMode}
 use Rattle.footer_modes.specs.declared.mode.FooterMode.TheVariants.{Encrypted, Signed}
 use Rattle.footer_modes.specs.Ends.{magic_of, mode_of, begins, area_at, ends_within, ends_of, area_of}
 use Rattle.footer_modes.specs.Written.{closed}
-
-pub step : {S T E : Type 0} (x : S) (r : Result S E) (f : S → Result T E) → r ≡ Ok x → (r >>= f) ≡ f x
-step x r f e = ap (λ r. r >>= f) e
 
 magic_length : (mode : FooterMode) → length (magic_of mode) ≡ 4
 magic_length Encrypted = refl
@@ -42,8 +40,8 @@ within_is : (mode : FooterMode) (size data_end count : ℕ) (front back : List �
     → ends_within size front back ≡ Ok (ends_with mode data_end count)
 within_is mode size data_end count front back front_is magic_is count_is size_is room small =
     let rest = λ (m : FooterMode). begins m front >>= (λ _. area_at size m (from_le_bytes w32 (take 4 back))) in
-    step mode (mode_of (size - 4) (drop 4 back)) rest (ap (mode_of (size - 4)) magic_is ∙ mode_is mode (size - 4))
-    ∙ step tt (begins mode front) (λ _. area_at size mode (from_le_bytes w32 (take 4 back))) (ap (begins mode) front_is ∙ begins_is mode)
+    bind_at (mode_of (size - 4) (drop 4 back)) rest mode (ap (mode_of (size - 4)) magic_is ∙ mode_is mode (size - 4))
+    ∙ bind_at (begins mode front) (λ _. area_at size mode (from_le_bytes w32 (take 4 back))) tt (ap (begins mode) front_is ∙ begins_is mode)
     ∙ ap (area_at size mode) count_is
     ∙ area_is size mode data_end count size_is room small
 

@@ -10,7 +10,8 @@ use Rattle.std.specs.Str.{bytes_eq}
 use Rattle.pme_base.specs.declared.refusal.Refusal.{Refusal}
 use Rattle.pme_base.specs.Steps.{◌>>=◌}
 use Rattle.crypto_module.specs.Opening.{AreBytes}
-use Rattle.crypto_module.proofs.Sealed.{bind_ok, below_take, when_false}
+use Rattle.pme_base.proofs.Chain.{bind_ok, bind_at, tested, passed, when_false, not_true}
+use Rattle.crypto_module.proofs.Sealed.{below_take}
 use Rattle.footer_modes.specs.declared.ends.Ends.{Ends}
 use Rattle.footer_modes.specs.declared.mode.FooterMode.{FooterMode}
 use Rattle.footer_modes.specs.declared.mode.FooterMode.TheVariants.{Encrypted, Signed}
@@ -26,15 +27,6 @@ pub record AreEnds (bytes : List ℕ) (ends : Ends) : Type 0 where
   pub inside : ends.data_end + ends.area + 8 ≡ length bytes
   pub least : 4 ≤ ends.data_end
   pub short : ends.area ≤ 16842752
-
--- tests that were passed
-pub tested : {T E : Type 0} (b : Bool) (x t : T) (y : E) → (if b then Ok x else Err y) ≡ Ok t → (b ≡ true) × (x ≡ t)
-tested true x t y e = (refl, cc)
-tested false x t y e = cc
-
-pub passed : {T E : Type 0} (b : Bool) (y : E) (rest : Result T E) (t : T) → (if b then Err y else rest) ≡ Ok t → (b ≡ false) × (rest ≡ Ok t)
-passed true y rest t e = cc
-passed false y rest t e = (refl, e)
 
 mode_by : (b c : Bool) (r : Refusal) (mode : FooterMode) (P : FooterMode → Type 0) → (b ≡ true → P Encrypted) → (c ≡ true → P Signed)
     → (if b then Ok Encrypted else if c then Ok Signed else Err r) ≡ Ok mode → P mode
@@ -138,12 +130,6 @@ begins_from : (mode : FooterMode) → begins mode (magic_of mode) ≡ Ok tt
 begins_from Encrypted = refl
 begins_from Signed = refl
 
-pub step : {S T E : Type 0} (x : Result S E) (v : S) (f : S → Result T E) → x ≡ Ok v → (x >>= f) ≡ f v
-step x v f e = ap (λ r. r >>= f) e
-
-pub not_true : {b : Bool} → b ≡ false → b ≡ true → ⊥
-not_true e h = cc
-
 area_from : (size : ℕ) (mode : FooterMode) (data_end count : ℕ) → data_end + count + 8 ≡ size → 4 ≤ data_end → count ≤ 16842752
     → area_at size mode count ≡ Ok (record { mode = mode; data_end = data_end; area = count })
 area_from size mode data_end count inside least short =
@@ -182,7 +168,7 @@ ends_from mode before area bytes laid =
     let at_end : area_at (length bytes) mode (from_le_bytes w32 (take 4 (back_of bytes))) ≡ Ok (record { mode = mode; data_end = length before; area = length area }) =
     ap (area_at (length bytes) mode) counted ∙ area_from (length bytes) mode (length before) (length area) (sym long) four laid.short in
     let within : ends_within (length bytes) (take 4 bytes) (back_of bytes) ≡ Ok (record { mode = mode; data_end = length before; area = length area }) =
-    step (mode_of (length bytes - 4) (drop 4 (back_of bytes))) mode _ by_last ∙ step (begins mode (take 4 bytes)) tt _ by_first ∙ at_end in (
+    bind_at (mode_of (length bytes - 4) (drop 4 (back_of bytes))) _ mode by_last ∙ bind_at (begins mode (take 4 bytes)) _ tt by_first ∙ at_end in (
       when_false (nat_lt (length bytes) 12) _ _ (not_true (le-ltb (length bytes) 12 (omega (arith, long, four)))) ∙ within,
       ap (take (length area)) after_rows ∙ take_at area back (length area) refl,
     )

@@ -7,7 +7,8 @@ use Rattle.std.specs.Str.{bytes_eq}
 use Rattle.pme_base.specs.declared.refusal.Refusal.{Refusal}
 use Rattle.pme_base.specs.Steps.{◌>>=◌}
 use Rattle.crypto_module.specs.Opening.{AreBytes}
-use Rattle.crypto_module.proofs.Sealed.{bind_ok, below_take, when_true, when_false}
+use Rattle.pme_base.proofs.Chain.{ok_same, bind_ok, bind_at, tested, passed, when_true, when_false, not_true}
+use Rattle.crypto_module.proofs.Sealed.{below_take}
 use Rattle.key_rights.specs.declared.finder.KeyAnswer.{KeyAnswer}
 use Rattle.key_rights.specs.declared.finder.KeyAnswer.TheVariants.{Held, Absent, Refused}
 use Rattle.key_rights.specs.Finding.{footer}
@@ -21,10 +22,7 @@ use Rattle.footer_modes.specs.Ends.{footer_place, ends_of, area_of}
 use Rattle.footer_modes.specs.TailOf.{Asks, head_of, allowed, within_limit, stored_within, prefix_of, aad_of, key_of, plain_of, footer_of, area_tail, tail_of}
 use Rattle.footer_modes.specs.IsTail.{IsPrefix, IsFileAad, IsTail, sealing_of}
 use Rattle.footer_modes.proofs.AreasLaid.{area_is, area_reads}
-use Rattle.footer_modes.proofs.EndsLaid.{tested, passed, step, no_less, not_true, below_drop, ends_are, ends_cut, ends_from, area_length}
-
-ok_same : {T E : Type 0} (x y : T) → ◌≡◌ {A = Result T E} (Ok x) (Ok y) → x ≡ y
-ok_same x y e = cc
+use Rattle.footer_modes.proofs.EndsLaid.{no_less, below_drop, ends_are, ends_cut, ends_from, area_length}
 
 -- the associated data
 prefix_is : (stored : Option (List ℕ)) (supply : Bool) (supplied : Option (List ℕ)) (prefix : List ℕ)
@@ -77,9 +75,9 @@ aad_is algorithm supplied file e =
 
 aad_from : (algorithm : AlgorithmMeta) (supplied : Option (List ℕ)) (file : List ℕ) → IsFileAad algorithm supplied file → aad_of algorithm supplied ≡ Ok file
 aad_from algorithm supplied file h =
-    step (stored_within algorithm.prefix) tt _ (stored_from algorithm.prefix h.stored_short)
-    ∙ step (within_limit 64 (length algorithm.unique)) tt _ (limit_from 64 (length algorithm.unique) h.unique_short)
-    ∙ step (prefix_of algorithm.prefix algorithm.supply supplied) h.prefix (λ p. Ok (p ++ algorithm.unique)) (prefix_from algorithm.prefix algorithm.supply supplied h.prefix h.prefix_is)
+    bind_at (stored_within algorithm.prefix) _ tt (stored_from algorithm.prefix h.stored_short)
+    ∙ bind_at (within_limit 64 (length algorithm.unique)) _ tt (limit_from 64 (length algorithm.unique) h.unique_short)
+    ∙ bind_at (prefix_of algorithm.prefix algorithm.supply supplied) (λ p. Ok (p ++ algorithm.unique)) h.prefix (prefix_from algorithm.prefix algorithm.supply supplied h.prefix h.prefix_is)
     ∙ ap Ok (sym h.joined)
 
 -- the algorithm, the key and the footer
@@ -159,12 +157,12 @@ pub area_tail_from : (asks : Asks) (mode : FooterMode) (data_end : ℕ) (area : 
       at = data_end + head.size;
     })
 area_tail_from asks mode data_end area head tail steps =
-    step (head_of mode data_end area) head _ steps.head_is
-    ∙ step (allowed asks.gcm_only head.algorithm) tt _ steps.taken
-    ∙ step (aad_of head.algorithm asks.prefix) tail.file_aad _ steps.aad_is
-    ∙ step (key_of (asks.answer (footer head.metadata))) tail.footer_key _ (ap key_of steps.key_is)
-    ∙ step (plain_of mode tail.footer_key tail.file_aad (data_end + head.size) head.size area) steps.plain _ steps.bytes_are
-    ∙ step (footer_of steps.plain) tail.footer _ (ap (λ r. r >>= λ x. Ok x.0) steps.footer_is)
+    bind_at (head_of mode data_end area) _ head steps.head_is
+    ∙ bind_at (allowed asks.gcm_only head.algorithm) _ tt steps.taken
+    ∙ bind_at (aad_of head.algorithm asks.prefix) _ tail.file_aad steps.aad_is
+    ∙ bind_at (key_of (asks.answer (footer head.metadata))) _ tail.footer_key (ap key_of steps.key_is)
+    ∙ bind_at (plain_of mode tail.footer_key tail.file_aad (data_end + head.size) head.size area) _ steps.plain steps.bytes_are
+    ∙ bind_at (footer_of steps.plain) _ tail.footer (ap (λ r. r >>= λ x. Ok x.0) steps.footer_is)
 
 pub read_if_laid : (asks : Asks) (bytes : List ℕ) (tail : Tail) → IsTail asks bytes tail → tail_of asks bytes ≡ Ok tail
 read_if_laid asks bytes tail t =
@@ -182,7 +180,7 @@ read_if_laid asks bytes tail t =
       footer_is = t.footer;
     } in
     let at_is : length t.before + t.front ≡ tail.at = sym (t.at ∙ ap (λ k. k + t.front) t.data_end) in
-    step (ends_of bytes) (record { mode = tail.mode; data_end = length t.before; area = length t.area }) _ by_ends
+    bind_at (ends_of bytes) _ (record { mode = tail.mode; data_end = length t.before; area = length t.area }) by_ends
     ∙ ap (area_tail asks tail.mode (length t.before)) area_same
     ∙ area_tail_from asks tail.mode (length t.before) t.area head tail steps
     ∙ (λ i. Ok (record { mode = tail.mode; algorithm = tail.algorithm; file_aad = tail.file_aad; footer = tail.footer; footer_key = tail.footer_key; data_end = sym t.data_end i; at = at_is i }))

@@ -20,7 +20,8 @@ use Rattle.footer_modes.specs.Ends.{footer_place, ends_of, area_of}
 use Rattle.footer_modes.specs.TailOf.{Asks, sealed_head, signed_head, head_of, allowed, aad_of, key_of, signature, checked, plain_of, footer_of, area_tail, tail_of, metadata_of}
 use Rattle.footer_modes.specs.Written.{closed, footer_tag, encrypted_area, signed_area, encrypted_tail, signed_tail, is_too_large}
 use Rattle.footer_modes.specs.WrittenRead.{CanOpen, IsCrypto, IsSigning, tail_with, Begins}
-use Rattle.footer_modes.proofs.Ended.{step, ends_with, ends_closed, area_closed}
+use Rattle.pme_base.proofs.Chain.{bind_at}
+use Rattle.footer_modes.proofs.Ended.{ends_with, ends_closed, area_closed}
 use Rattle.footer_modes.proofs.Lengths.{signed_area_length}
 
 -- an area within the limit, and a footer within its own
@@ -35,7 +36,7 @@ tail_closed : (asks : Asks) (mode : FooterMode) (before area : List ℕ) → Beg
     → tail_of asks (before ++ closed mode area) ≡ area_tail asks mode (length before) area
 tail_closed asks mode before area first small =
     let bytes = before ++ closed mode area in
-    step (ends_with mode (length before) (length area)) (ends_of bytes) (λ ends. area_tail asks ends.mode ends.data_end (area_of ends bytes))
+    bind_at (ends_of bytes) (λ ends. area_tail asks ends.mode ends.data_end (area_of ends bytes)) (ends_with mode (length before) (length area))
     (ends_closed mode before area first small)
     ∙ ap (area_tail asks mode (length before)) (area_closed mode before area)
 
@@ -43,9 +44,9 @@ metadata_closed : (mode : FooterMode) (before area : List ℕ) (head : Head) →
     → head_of mode (length before) area ≡ Ok head → metadata_of (before ++ closed mode area) ≡ Ok head.metadata
 metadata_closed mode before area head first small is =
     let bytes = before ++ closed mode area in
-    step (ends_with mode (length before) (length area)) (ends_of bytes) (λ ends. head_of ends.mode ends.data_end (area_of ends bytes) >>= (λ head. Ok head.metadata))
+    bind_at (ends_of bytes) (λ ends. head_of ends.mode ends.data_end (area_of ends bytes) >>= (λ head. Ok head.metadata)) (ends_with mode (length before) (length area))
     (ends_closed mode before area first small)
-    ∙ step head (head_of mode (length before) (area_of (ends_with mode (length before) (length area)) bytes)) (λ head. Ok head.metadata)
+    ∙ bind_at (head_of mode (length before) (area_of (ends_with mode (length before) (length area)) bytes)) (λ head. Ok head.metadata) head
     (ap (head_of mode (length before)) (area_closed mode before area) ∙ is)
 
 -- the steps of a reader that can open the area
@@ -60,17 +61,17 @@ area_read asks mode data_end area head key file plain is can opens =
     let unlocked = λ (head : Head) (file key : List ℕ). plain_of mode key file (data_end + head.size) head.size area >>= read head file key in
     let keyed = λ (head : Head) (file : List ℕ). key_of (asks.answer (footer head.metadata)) >>= unlocked head file in
     let bound = λ (head : Head). aad_of head.algorithm asks.prefix >>= keyed head in
-    step head (head_of mode data_end area) (λ head. allowed asks.gcm_only head.algorithm >>= (λ _. bound head)) is
-    ∙ step tt (allowed asks.gcm_only head.algorithm) (λ _. bound head) can.takes
-    ∙ step file (aad_of head.algorithm asks.prefix) (keyed head) can.associated
-    ∙ step key (key_of (asks.answer (footer head.metadata))) (unlocked head file) (ap key_of can.holds)
-    ∙ step plain (plain_of mode key file (data_end + head.size) head.size area) (read head file key) opens
+    bind_at (head_of mode data_end area) (λ head. allowed asks.gcm_only head.algorithm >>= (λ _. bound head)) head is
+    ∙ bind_at (allowed asks.gcm_only head.algorithm) (λ _. bound head) tt can.takes
+    ∙ bind_at (aad_of head.algorithm asks.prefix) (keyed head) file can.associated
+    ∙ bind_at (key_of (asks.answer (footer head.metadata))) (unlocked head file) key (ap key_of can.holds)
+    ∙ bind_at (plain_of mode key file (data_end + head.size) head.size area) (read head file key) plain opens
 
 -- the front of an encrypted area, and its module
 encrypted_head : (key file nonce crypto plain : List ℕ) (data_end : ℕ) (head : FileCrypto) → IsCrypto crypto head
     → head_of Encrypted data_end (encrypted_area key file nonce crypto plain) ≡ Ok (sealed_head (head, length crypto))
 encrypted_head key file nonce crypto plain data_end head is =
-    step (head, length crypto) (file_crypto_at footer_place (encrypted_area key file nonce crypto plain)) (λ read. Ok (sealed_head read))
+    bind_at (file_crypto_at footer_place (encrypted_area key file nonce crypto plain)) (λ read. Ok (sealed_head read)) (head, length crypto)
     (is (sealed_gcm key (aad file footer_place) nonce plain))
 
 encrypted_plain : (key file nonce crypto plain : List ℕ) (at : ℕ) → length nonce ≡ 12 → length plain ≤ 16777216
@@ -89,8 +90,8 @@ signed_front : (key file nonce plain : List ℕ) (data_end : ℕ) (algorithm : A
 signed_front key file nonce plain data_end algorithm metadata twelve is =
     let area = signed_area key file nonce plain in
     let room : (length area == length plain + 28) ≡ true = grind (arith, nat_tests, signed_area_length key file nonce plain twelve) in
-    step (Some algorithm, metadata, length plain) (split_signing (signing_at footer_place area))
-    (λ read. signed_head (data_end + length area) (length area) read.0 read.1 read.2)
+    bind_at (split_signing (signing_at footer_place area)) (λ read. signed_head (data_end + length area) (length area) read.0 read.1 read.2)
+    (Some algorithm, metadata, length plain)
     (ap split_signing (is (nonce ++ footer_tag key file nonce plain)))
     ∙ (rw room refl)
 

@@ -7,6 +7,7 @@ use Rattle.std.proofs.lemmas.List.{length-map}
 use Rattle.pme_base.specs.declared.place.Place.{Place}
 use Rattle.pme_base.specs.declared.refusal.Refusal.{Refusal}
 use Rattle.pme_base.specs.declared.refusal.StructName.TheVariants as name
+use Rattle.pme_base.proofs.Chain.{bind_ok}
 use Rattle.pme_base.specs.Steps.{◌>>=◌}
 use Rattle.parquet_types.specs.declared.column.ColumnKind.{ColumnKind}
 use Rattle.parquet_types.specs.declared.column.ColumnKind.TheVariants as kind
@@ -27,10 +28,6 @@ use Rattle.thrift_compact.specs.Tree.{struct}
 use Rattle.parquet_meta.specs.PlanRules.{IsTextOf, AreTyped, text_of, typed_column, planned_typed, TypedIsPlanned, planned_chunk, planned_group, planned_groups, PassedPlanIsRead}
 use Rattle.parquet_meta.specs.ReadBack.{NumbersFit, written, chunk_key, chunk_part, group_part, group_parts, root_part, column_part, converted_part, plan_fields}
 use Rattle.parquet_meta.proofs.ReadBackProved.{file_meta_read}
-
-bind_ok : {S T : Type 0} (r : Result S Refusal) (next : S → Result T Refusal) (t : T) → (r >>= next) ≡ Ok t → (s : S) × (r ≡ Ok s) × (next s ≡ Ok t)
-bind_ok (Ok s) next t e = (s, refl, e)
-bind_ok (Err refusal) next t e = absurd cc
 
 value_is : {T : Type 0} (a b : T) → ◌≡◌ {A = Result T Refusal} (Ok a) (Ok b) → b ≡ a
 value_is a b e = cc
