@@ -1,5 +1,5 @@
 -- The ends of a file whose footer area was closed.
-use Rattle.std.proofs.Common.{◌≡◌, ℕ, ◌+◌, ◌-◌, ◌≤◌, nat_lt, false, min, List, ◌++◌, length, take, drop, refl, sym, ap, ◌∙◌, arith, Result, Ok, length-append, append_assoc}
+use Rattle.std.proofs.Common.{◌≡◌, ℕ, ◌+◌, ◌-◌, ◌≤◌, nat_lt, false, min, List, ◌++◌, length, take, drop, refl, sym, ap, ◌∙◌, arith, Ok, length-append, append_assoc}
 use Rattle.std.proofs.lemmas.Bool.{le-ltb}
 use Rattle.std.proofs.lemmas.Bool.Decides.{nat_tests}
 use Rattle.std.proofs.lemmas.List.{take_at, drop_at, take_all, take-append-le, length-take}

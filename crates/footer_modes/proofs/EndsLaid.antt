@@ -1,5 +1,5 @@
 -- What the ends of a file tell of its bytes, and the ends of bytes that are laid out so.
-use Rattle.std.proofs.Common.{◌≡◌, ℕ, zero, suc, lit<, ◌+◌, ◌-◌, ◌≤◌, Bool, true, false, if◌then◌else◌, nat_lt, List, [], ◌∷◌, ◌++◌, length, take, drop, refl, sym, ap, ◌∙◌, subst, arith, Result, Ok, Err, length-append}
+use Rattle.std.proofs.Common.{◌≡◌, ℕ, zero, suc, lit<, ◌+◌, ◌-◌, ◌≤◌, Bool, true, false, if◌then◌else◌, nat_lt, List, [], ◌∷◌, ◌++◌, length, take, drop, refl, sym, ap, ◌∙◌, subst, arith, Ok, Err, length-append}
 use Rattle.std.proofs.lemmas.Bool.{le-ltb}
 use Rattle.std.proofs.lemmas.Bool.Decides.{nat_tests}
 use Rattle.std.proofs.lemmas.List.{take-append-drop, drop-drop, take_all, take_at, drop_at, length-take, length-take-le, length-drop, take-append-le}
@@ -8,7 +8,6 @@ use Rattle.std.proofs.lemmas.Slice.Eq.{bytes_eq-Decides}
 use Rattle.std.specs.Int.{w32, from_le_bytes, to_le_bytes}
 use Rattle.std.specs.Str.{bytes_eq}
 use Rattle.pme_base.specs.declared.refusal.Refusal.{Refusal}
-use Rattle.pme_base.specs.Steps.{◌>>=◌}
 use Rattle.crypto_module.specs.Opening.{AreBytes}
 use Rattle.pme_base.proofs.Chain.{bind_ok, bind_at, tested, passed, when_false, not_true}
 use Rattle.crypto_module.proofs.Sealed.{below_take}

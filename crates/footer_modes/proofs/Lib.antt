@@ -3,6 +3,7 @@ mod Ended
 pub mod EndsLaid
 mod Lengths
 pub mod Parted
+mod RefusedAt
 mod PlannedRead
 pub mod TailsLaid
 mod Told

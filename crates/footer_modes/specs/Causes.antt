@@ -1,5 +1,5 @@
 -- Which causes the refusals of each step have, and when a finder of keys is to blame.
-use Rattle.std.specs.Prelude.{◌≡◌, ℕ, ◌<◌, ◌≤◌, Bool, true, false, Result, IfErr}
+use Rattle.std.specs.Prelude.{◌≡◌, ◌⊎◌, ℕ, ◌<◌, ◌≤◌, Bool, true, false, Result, IfErr}
 use Rattle.pme_base.specs.declared.refusal.Cause.{Cause}
 use Rattle.pme_base.specs.declared.refusal.Cause.TheVariants.{Truncated, BadLength, BadTag, BadMagic, BadMaterial, NoMaterial, WrapTag, KeyLength, BadFooterLength, NotEncrypted, PrefixNeeded, PrefixUnused, PrefixDiffers, FooterKeyMissing, AlgorithmRefused, TooLarge, NoFile, ReadFault, ServiceFault, OutOfMemory}
 use Rattle.pme_base.specs.declared.refusal.Refusal.{Refusal}
@@ -9,6 +9,7 @@ use Rattle.pme_base.specs.Counts.{Rose}
 use Rattle.key_rights.specs.Finding.{is_key_cause}
 use Rattle.parquet_fields.specs.Causes.{is_struct_cause}
 use Rattle.parquet_meta.specs.Footer.{is_file_cause}
+use Rattle.footer_modes.specs.Ends.{file_place, footer_place}
 
 abbrev pub is_reading_cause : Cause → Bool
 is_reading_cause Truncated = true
@@ -90,3 +91,14 @@ pub record IsShortRead (place : Place) (at needed : ℕ) (refusal : Refusal) : T
   pub there : ℕ
   pub fewer : there < needed
   pub is : refusal ≡ pair_refusal Truncated place at needed there
+
+-- fewer bytes of a file's two ends, which have 12 bytes, than its size told
+pub record IsShortEnd (refusal : Refusal) : Type 0 where
+  pub at : ℕ
+  pub needed : ℕ
+  pub few : needed ≤ 12
+  pub short : IsShortRead file_place at needed refusal
+
+-- where a file that is too short is refused: at the file where its ends are read, and else at the footer
+abbrev pub TellsShort : Refusal → Type 0
+TellsShort refusal = refusal.cause ≡ Truncated → IsShortEnd refusal ⊎ (refusal.place ≡ footer_place)

@@ -5,7 +5,7 @@ ghost use Rattle.pme_base.specs.Outside.{bytes_of};
 ghost use Rattle.pme_base.specs.Refusals.{is_free};
 ghost use Rattle.pme_base.specs.Steps.{Answers, Quiet, ReadsFail};
 ghost use Rattle.pme_base.specs.declared.refusal.Cause.TheVariants.{Truncated};
-ghost use Rattle.footer_modes.specs.Causes.{is_ends_cause, is_reading_cause, IsShortRead};
+ghost use Rattle.footer_modes.specs.Causes.{is_ends_cause, is_reading_cause, IsShortEnd, IsShortRead};
 ghost use Rattle.footer_modes.specs.Ends as defined;
 
 use crate::mode::FooterMode;
@@ -33,6 +33,7 @@ pub(crate) fn file_ends<F: Files>(files: &mut F, name: &str) -> Result<Ends, Ref
     ensures inside { IfOk result (λ ends. IfSome (F.published files.old) (λ told. defined.IsInside ends (bytes_of told name.now))) }
     ensures small { IfOk result (λ ends. ends.area ≤ 16842752) }
     ensures offset { IfOk result (λ ends. ends.data_end + ends.area + 8 < 2 ^ 64) }
+    ensures short { IfErr result (λ refusal. refusal.cause ≡ Truncated → IsShortEnd refusal) }
     ensures published { F.published files.new ≡ F.published files.old }
     ensures pending { OnOk result (F.pending files.new ≡ F.pending files.old) }
     ensures given { F.given files.new ≤ F.given files.old + 12 }
@@ -51,6 +52,7 @@ fn ends_at<F: Files>(files: &mut F, name: &str, size: u64) -> Result<Ends, Refus
     ensures answer { IfSome (F.published files.old) (λ told. size ≡ length (bytes_of told name.now) → Answers result (defined.ends_of (bytes_of told name.now))) }
     ensures inside { IfOk result (λ ends. ends.data_end + ends.area + 8 ≡ size) }
     ensures small { IfOk result (λ ends. ends.area ≤ 16842752) }
+    ensures short { IfErr result (λ refusal. refusal.cause ≡ Truncated → IsShortEnd refusal) }
     ensures published { F.published files.new ≡ F.published files.old }
     ensures pending { OnOk result (F.pending files.new ≡ F.pending files.old) }
     ensures given { F.given files.new ≤ F.given files.old + 12 }
@@ -74,6 +76,7 @@ fn ends_within(size: u64, front: &[u8; 4], back: &[u8; 8]) -> Result<Ends, Refus
     ensures answer { result ≡ defined.ends_within size front.now back.now }
     ensures inside { IfOk result (λ ends. ends.data_end + ends.area + 8 ≡ size) }
     ensures small { IfOk result (λ ends. ends.area ≤ 16842752) }
+    ensures whole { IfErr result (λ refusal. refusal.cause ≡ Truncated → ⊥) }
     ensures quiet { Quiet result }
     ensures causes { IfErr result (λ refusal. is_ends_cause refusal.cause ≡ true) }
 {
@@ -86,6 +89,7 @@ fn ends_within(size: u64, front: &[u8; 4], back: &[u8; 8]) -> Result<Ends, Refus
 /// The mode by the last magic, which stands at this offset.
 fn mode_of(at: u64, magic: &[u8]) -> Result<FooterMode, Refusal>
     ensures answer { result ≡ defined.mode_of at magic.now }
+    ensures whole { IfErr result (λ refusal. refusal.cause ≡ Truncated → ⊥) }
     ensures quiet { Quiet result }
     ensures causes { IfErr result (λ refusal. is_ends_cause refusal.cause ≡ true) }
 {
@@ -101,6 +105,7 @@ fn mode_of(at: u64, magic: &[u8]) -> Result<FooterMode, Refusal>
 /// Checks that the file begins with the mode's magic.
 fn begins(mode: FooterMode, front: &[u8]) -> Result<(), Refusal>
     ensures answer { result ≡ defined.begins mode front.now }
+    ensures whole { IfErr result (λ refusal. refusal.cause ≡ Truncated → ⊥) }
     ensures quiet { Quiet result }
     ensures causes { IfErr result (λ refusal. is_ends_cause refusal.cause ≡ true) }
 {
@@ -123,6 +128,7 @@ fn area_at(size: u64, mode: FooterMode, count: u32) -> Result<Ends, Refusal>
     ensures answer { result ≡ defined.area_at size mode count }
     ensures inside { IfOk result (λ ends. ends.data_end + ends.area + 8 ≡ size) }
     ensures small { IfOk result (λ ends. ends.area ≤ 16842752) }
+    ensures whole { IfErr result (λ refusal. refusal.cause ≡ Truncated → ⊥) }
     ensures quiet { Quiet result }
     ensures causes { IfErr result (λ refusal. is_ends_cause refusal.cause ≡ true) }
 {

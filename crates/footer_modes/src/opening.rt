@@ -63,6 +63,7 @@ pub(crate) fn plain_of<'a>(
     requires short { length area.old ≤ 16842752 }
     ensures ok { IfOk result (λ plain. defined.plain_of mode key.now file.now at size area.old ≡ Ok plain.now) }
     ensures err { IfErr result (λ refusal. defined.plain_of mode key.now file.now at size area.old ≡ Err refusal) }
+    ensures place { IfErr result (λ refusal. refusal.place ≡ footer_place) }
     ensures quiet { Quiet result }
     ensures causes { IfErr result (λ refusal. is_module_cause refusal.cause ≡ true) }
 {
@@ -84,6 +85,7 @@ fn sealed_plain<'a>(
     requires short { length aad.now ≤ 4096 }
     ensures ok { IfOk result (λ plain. opened key.now aad.now footer_place at 16777216 true «module».old ≡ Ok plain.now) }
     ensures err { IfErr result (λ refusal. opened key.now aad.now footer_place at 16777216 true «module».old ≡ Err refusal) }
+    ensures place { IfErr result (λ refusal. refusal.place ≡ footer_place) }
     ensures quiet { Quiet result }
     ensures causes { IfErr result (λ refusal. is_module_cause refusal.cause ≡ true) }
 {
@@ -107,6 +109,7 @@ fn signed_plain<'a>(
     requires short { length area.now ≤ 16842752 }
     ensures ok { IfOk result (λ plain. defined.checked_area key.now aad.now at size area.now ≡ Ok plain.now) }
     ensures err { IfErr result (λ refusal. defined.checked_area key.now aad.now at size area.now ≡ Err refusal) }
+    ensures place { IfErr result (λ refusal. refusal.place ≡ footer_place) }
     ensures quiet { Quiet result }
     ensures causes { IfErr result (λ refusal. is_module_cause refusal.cause ≡ true) }
 {

@@ -3,7 +3,9 @@ ghost use Rattle.std.specs.Prelude.{◌≡◌, ◌+◌, ◌<◌, ◌≤◌, ◌^
 ghost use Rattle.std.specs.FinMap.{get};
 ghost use Rattle.std.specs.Option.{option_copied};
 ghost use Rattle.pme_base.specs.Steps.{Answers, Quiet, ReadsFail};
-ghost use Rattle.footer_modes.specs.Causes.{is_head_cause, is_ends_cause, is_metadata_cause, is_tail_cause, is_area_cause, FinderFails};
+ghost use Rattle.footer_modes.specs.Causes.{is_head_cause, is_ends_cause, is_metadata_cause, is_tail_cause, is_area_cause, FinderFails, TellsShort};
+ghost use Rattle.pme_base.specs.declared.refusal.Cause.TheVariants.{AlgorithmRefused, Truncated};
+ghost use Rattle.parquet_meta.specs.Footer.{HasFileCause};
 ghost use Rattle.footer_modes.specs.Ends.{footer_place};
 ghost use Rattle.footer_modes.specs.IsTail.{IsTail};
 ghost use Rattle.footer_modes.specs.TailOf as defined;
@@ -38,6 +40,7 @@ pub fn read_tail<F: Files, K: KeyFinder>(
     requires small_limit { options.now.module_limit ≤ 268435456 }
     ensures answer { IfSome (F.published files.old) (λ told. Answers result (defined.file_tail (defined.asks_of (K.answer finder.old) (option_copied prefix.entry) options.now.gcm_only) (get told name.now))) }
     ensures laid_out { IfOk result (λ tail. IfSome (F.published files.old) (λ told. IfSome (get told name.now) (λ bytes. IsTail (defined.asks_of (K.answer finder.old) (option_copied prefix.entry) options.now.gcm_only) bytes tail))) }
+    ensures short { IfErr result TellsShort }
     ensures published { F.published files.new ≡ F.published files.old }
     ensures pending { OnOk result (F.pending files.new ≡ F.pending files.old) }
     ensures given { F.given files.new ≤ F.given files.old + 16842764 }
@@ -60,13 +63,15 @@ pub fn read_tail<F: Files, K: KeyFinder>(
 }
 
 /// Reads the metadata of the footer's key of the file `name`, None where the file has none. The refusals are those of
-/// the ends and of the front of the footer area; no key is asked for.
+/// the ends and of the front of the footer area; no key is asked for. A file that gives fewer bytes of the footer area
+/// than its size told is Truncated at the footer.
 pub fn footer_key_metadata<F: Files>(
     alloc: Global,
     files: &mut F,
     name: &str,
 ) -> Result<Option<Bytes>, Refusal>
     ensures answer { IfSome (F.published files.old) (λ told. Answers result (defined.file_key_metadata (get told name.now))) }
+    ensures short { IfErr result TellsShort }
     ensures published { F.published files.new ≡ F.published files.old }
     ensures pending { OnOk result (F.pending files.new ≡ F.pending files.old) }
     ensures given { F.given files.new ≤ F.given files.old + 16842764 }
@@ -108,6 +113,7 @@ pub(crate) fn open_area<K: KeyFinder>(
     requires short { length area.old ≤ 16842752 }
     requires short_prefix { IfSome (option_copied prefix) (λ supplied. length supplied ≤ 1024) }
     ensures answer { Answers result (defined.area_tail (defined.asks_of (K.answer finder.old) (option_copied prefix.entry) gcm_only) mode data_end area.old) }
+    ensures short { IfErr result (λ refusal. refusal.cause ≡ Truncated → refusal.place ≡ footer_place) }
     ensures same { K.answer finder.new ≡ K.answer finder.old }
     ensures finder { FinderFails (K.faults finder.old) (K.faults finder.new) result }
     ensures causes { IfErr result (λ refusal. is_area_cause refusal.cause ≡ true) }
@@ -140,7 +146,7 @@ pub(crate) fn open_area<K: KeyFinder>(
 fn allowed(gcm_only: bool, algorithm: &AlgorithmMeta) -> Result<(), Refusal>
     ensures answer { result ≡ defined.allowed gcm_only algorithm.now }
     ensures quiet { Quiet result }
-    ensures causes { IfErr result (λ refusal. is_area_cause refusal.cause ≡ true) }
+    ensures causes { IfErr result (λ refusal. refusal.cause ≡ AlgorithmRefused) }
 {
     if gcm_only && algorithm.ctr {
         return Err(refused(Cause::AlgorithmRefused, Detail::Nothing));
@@ -152,7 +158,7 @@ fn allowed(gcm_only: bool, algorithm: &AlgorithmMeta) -> Result<(), Refusal>
 fn footer_of(alloc: Global, plain: &[u8]) -> Result<FileMeta, Refusal>
     ensures answer { Answers result (defined.footer_of plain.now) }
     ensures quiet { Quiet result }
-    ensures causes { IfErr result (λ refusal. is_area_cause refusal.cause ≡ true) }
+    ensures causes { HasFileCause result }
 {
     let (footer, _) = read_file_meta(alloc, &Place::footer(), plain)?;
     Ok(footer)
