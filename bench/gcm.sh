@@ -1,18 +1,22 @@
 #!/usr/bin/env bash
 # Measures AES-128-GCM as this repository builds it beside OpenSSL without AES instructions, in one run:
-# open_in_place and seal_in_place in memory, and the whole of `pme module` on a module of 16 MiB. All times are
-# processor time, and of several runs the least counts.
+# open_in_place and seal_in_place in memory, checking and opening 16 MiB in pieces of 1 MiB, and the whole of `pme module`
+# on a module of 16 MiB. All times are processor time, and of several runs the least counts.
 # It builds a throw-away program over a copy of the crates, and needs openssl and python3.
 set -eu
 . "$(dirname "$0")/throwaway.sh"
-throw_away gcm_bench 'pme_terms aes_block gcm_field gcm_seal' 'aes_block gcm_seal anyhow'
+throw_away gcm_bench 'pme_terms pme_base aes_block gcm_field gcm_seal crypto_module' 'aes_block gcm_seal crypto_module pme_base anyhow'
 cat > "$program/src/main.rt" <<'RT'
 // Times opening and sealing, and writes a module of 16 MiB.
 #![tactic(auto)]
 
+ghost use Rattle.std.specs.Prelude.{◌≡◌, length};
+
 use aes_block::AesKey;
 use anyhow::{Result, anyhow};
+use crypto_module::Checking;
 use gcm_seal::{open_in_place, seal_in_place};
+use pme_base::{Place, Refusal};
 use std::alloc::AllocError;
 use std::fs;
 use std::time::CpuClock;
@@ -68,6 +72,75 @@ fn time_size(rt: &HostRuntime, key: &AesKey, text: &mut [u8], turns: u32) -> Res
     Ok(())
 }
 
+/// Checks and opens a ciphertext of 16 MiB in sixteen pieces.
+fn open_in_pieces(key: &AesKey, text: &mut [u8], tag: [u8; 16]) -> Result<(), Refusal>
+    requires { length text.old ≡ 16777216 }
+{
+    let mut checking = Checking::new(key, b"", NONCE, 16_777_216);
+    checking.piece(&text[0..1048576]);
+    checking.piece(&text[1048576..2097152]);
+    checking.piece(&text[2097152..3145728]);
+    checking.piece(&text[3145728..4194304]);
+    checking.piece(&text[4194304..5242880]);
+    checking.piece(&text[5242880..6291456]);
+    checking.piece(&text[6291456..7340032]);
+    checking.piece(&text[7340032..8388608]);
+    checking.piece(&text[8388608..9437184]);
+    checking.piece(&text[9437184..10485760]);
+    checking.piece(&text[10485760..11534336]);
+    checking.piece(&text[11534336..12582912]);
+    checking.piece(&text[12582912..13631488]);
+    checking.piece(&text[13631488..14680064]);
+    checking.piece(&text[14680064..15728640]);
+    checking.piece(&text[15728640..16777216]);
+    let mut checked = checking.finish(&Place::loose(), 0, tag)?;
+    checked.open(&mut text[0..1048576]);
+    checked.open(&mut text[1048576..2097152]);
+    checked.open(&mut text[2097152..3145728]);
+    checked.open(&mut text[3145728..4194304]);
+    checked.open(&mut text[4194304..5242880]);
+    checked.open(&mut text[5242880..6291456]);
+    checked.open(&mut text[6291456..7340032]);
+    checked.open(&mut text[7340032..8388608]);
+    checked.open(&mut text[8388608..9437184]);
+    checked.open(&mut text[9437184..10485760]);
+    checked.open(&mut text[10485760..11534336]);
+    checked.open(&mut text[11534336..12582912]);
+    checked.open(&mut text[12582912..13631488]);
+    checked.open(&mut text[13631488..14680064]);
+    checked.open(&mut text[14680064..15728640]);
+    checked.open(&mut text[15728640..16777216]);
+    Ok(())
+}
+
+/// The time of sealing 16 MiB and opening them again in pieces, in nanoseconds.
+fn pieces_time(rt: &HostRuntime, key: &AesKey, text: &mut [u8]) -> Result<u128> {
+    if text.len() != 16_777_216 {
+        return Err(anyhow!("no 16 MiB"));
+    }
+    let start = rt.thread_cpu_time()?;
+    let tag = seal_in_place(key, &NONCE, b"", text);
+    let refused = open_in_pieces(key, text, tag).is_err();
+    let end = rt.thread_cpu_time()?;
+    if refused {
+        return Err(anyhow!("a tag differs"));
+    }
+    Ok(end.saturating_sub(start).as_nanos())
+}
+
+fn time_pieces(rt: &HostRuntime, key: &AesKey, text: &mut [u8]) -> Result<()> {
+    let mut sealing = u128::MAX;
+    let mut whole = u128::MAX;
+    let mut pieces = u128::MAX;
+    for _ in 0..9 {
+        sealing = sealing.min(seal_time(rt, key, text, 1)?);
+        whole = whole.min(both_time(rt, key, text, 1)?);
+        pieces = pieces.min(pieces_time(rt, key, text)?);
+    }
+    println!(rt; "pieces {} {}", whole.saturating_sub(sealing), pieces.saturating_sub(sealing))?;
+    Ok(())
+}
+
 fn write_module(rt: &HostRuntime, key: &AesKey, text: &mut [u8]) -> Result<()> {
     if text.len() > 16_777_216 {
         return Ok(());
@@ -95,6 +168,7 @@ fn main(rt: HostRuntime) -> Result<()> {
     measure(&rt, &key, 1 << 20, 16)?;
     measure(&rt, &key, 1 << 24, 1)?;
     let mut text = text_of(&rt, 1 << 24)?;
+    time_pieces(&rt, &key, text.as_mut_slice())?;
     write_module(&rt, &key, text.as_mut_slice())
 }
 RT
@@ -112,6 +186,10 @@ def speed(size):
     return float(re.search(r"([0-9.]+)k", last)[1]) / 1000
 print(f"{'bytes':>9}  {'openssl':>8}  {'open':>8}  {'ratio':>5}  {'seal':>8}  {'ratio':>5}   (MB/s)")
 for line in open(sys.argv[1]):
+    if line.startswith("pieces"):
+        whole, pieces = map(int, line.split()[1:])
+        print(f"16 MiB opened in place: {whole / 1e6:.1f} ms; checked and opened in pieces of 1 MiB: {pieces / 1e6:.1f} ms, ratio {pieces / whole:.3f}")
+        continue
     size, opening, sealing, turns = map(int, line.split())
     base, opens, seals = peer(size), size * turns * 1000 / opening, size * turns * 1000 / sealing
     print(f"{size:9}  {base:8.1f}  {opens:8.1f}  {opens / base:5.2f}  {seals:8.1f}  {seals / base:5.2f}")

@@ -1,8 +1,8 @@
 ghost use Rattle.std.specs.Prelude.{None};
 
 use pme_base::{
-    Bytes, Failed, Files, MemFiles, MemRandom, MemSink, NameSet, Place, PlaceKind, Random, Rows,
-    Sink, StdFiles, StdRandom, StdSink, Text, Trouble, Words, read_full,
+    Bytes, Failed, Files, MemFiles, MemRandom, MemSink, NameSet, Place, PlaceKind, Random,
+    Sequence, Sink, StdFiles, StdRandom, StdSink, Text, Trouble, Words, read_full,
 };
 use std::fs;
 use std::test::Fail;
@@ -27,11 +27,11 @@ fn lists_of_bytes_and_words_hold_what_was_added(rt: HostRuntime) -> Result<(), F
 #[test]
 fn a_set_of_names_tells_new_ones_and_a_list_is_taken_apart(rt: HostRuntime) -> Result<(), Fail> {
     let mut names = NameSet::new(rt.alloc());
-    let mut list = Rows::new(rt.alloc());
+    let mut list = Sequence::new(rt.alloc());
     for name in ["id", "name", "id", ""] {
         list.push(names.add(name.as_bytes())?)?;
     }
-    let mut rest = list.into_rest();
+    let mut rest = list.into_items();
     for new in [true, true, false, true] {
         assert_eq!(rt; rest.next(), Some(new));
     }

@@ -1,4 +1,4 @@
--- The command that a line is: nothing where its words are no line of the table.
+-- The command of a command line, or none where the words are no valid command.
 use Rattle.std.specs.Prelude.{ℕ, Bool, List, [], ◌∷◌, Option, Some, None, codes, option_map, if◌then◌else◌}
 use Rattle.command_line.specs.declared.command.Command.{Command}
 use Rattle.command_line.specs.declared.command.Command.TheVariants as command
@@ -16,14 +16,14 @@ with_three _ _ _ make = None
 abbrev pub module_with : List ℕ → List ℕ → List ℕ → Option Command
 module_with key associated_data file =
     with_three (key_of_hex key) (associated_data_of_hex associated_data) (Some file)
-    (λ k a f. Some (command.Module k a f))
+    (λ k a f. Some (command.Module (record { key = k; associated_data = a; file = f })))
 
 abbrev pub module_of : List (List ℕ) → Option Command
 module_of options =
     with_three (value_of Module (codes "--key") options) (value_of Module (codes "--aad") options) (value_of Module (codes "--file") options) module_with
 
 abbrev pub thrift_of : List (List ℕ) → Option Command
-thrift_of options = option_map command.Thrift (value_of Thrift (codes "--file") options)
+thrift_of options = option_map (λ f. command.Thrift (record { file = f })) (value_of Thrift (codes "--file") options)
 
 -- a prefix that is supplied, or that none is; nothing where its text is no prefix
 abbrev pub prefix_with : Option (List ℕ) → Option (Option (List ℕ))
@@ -31,7 +31,7 @@ prefix_with None = Some None
 prefix_with (Some text) = option_map Some (prefix_of_hex text)
 
 abbrev pub footer_with : Bool → List ℕ → List ℕ → Option (List ℕ) → Option Command
-footer_with gcm_only file keys prefix = option_map (λ p. command.Footer file keys p gcm_only) (prefix_with prefix)
+footer_with gcm_only file keys prefix = option_map (λ p. command.Footer (record { file = file; keys = keys; prefix = p; gcm_only = gcm_only })) (prefix_with prefix)
 
 abbrev pub footer_of : List (List ℕ) → Option Command
 footer_of options =

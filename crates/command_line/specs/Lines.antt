@@ -63,7 +63,7 @@ pub record AsksModule (givens : List Given) (asked : Command) : Type 0 where
 pub record AsksThrift (givens : List Given) (asked : Command) : Type 0 where
   pub file : List ℕ
   pub has_file : IsIn (option (codes "--file") file) givens
-  pub is : command.Thrift file ≡ asked
+  pub is : command.Thrift (record { file = file }) ≡ asked
 
 pub record AsksFooter (givens : List Given) (asked : Command) : Type 0 where
   pub file : List ℕ

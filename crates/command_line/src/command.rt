@@ -11,30 +11,49 @@ use aes_block::AesKey;
 use pme_base::{OutOfMemory, Text, Words};
 use std::alloc::Global;
 
-/// What a line asks for.
+/// A command with its arguments.
 #[derive(Drop)]
 pub enum Command {
-    /// Open the one module that fills `file`, sealed under `key` with `associated_data`.
-    Module {
-        key: AesKey,
-        associated_data: AssociatedData,
-        file: Text,
-    },
-    /// Print the struct at the front of `file` as text.
-    Thrift {
-        file: Text,
-    },
-    /// Print what the tail of `file` says, whose keys the keys file `keys` names. `prefix` is the prefix of the
-    /// associated data where one is supplied; with `gcm_only` the algorithm must authenticate every page.
-    Footer {
-        file: Text,
-        keys: Text,
-        prefix: Option<AadPrefix>,
-        gcm_only: bool,
-    },
+    /// Open the module that fills a file, and print its plaintext.
+    Module(ModuleArgs),
+    /// Print the Thrift struct at the front of a file as text.
+    Thrift(ThriftArgs),
+    /// Print the mode, the algorithm, the columns and the row counts of a file's footer.
+    Footer(FooterArgs),
 }
 
-/// The command that the words are, or None where they are no line of the table.
+/// The arguments of `module`.
+#[derive(Drop)]
+pub struct ModuleArgs {
+    /// The key that the module is sealed under.
+    pub key: AesKey,
+    /// The associated data of the module.
+    pub associated_data: AssociatedData,
+    /// The name of the file that the module fills.
+    pub file: Text,
+}
+
+/// The arguments of `thrift`.
+#[derive(Drop)]
+pub struct ThriftArgs {
+    /// The name of the file that begins with a struct.
+    pub file: Text,
+}
+
+/// The arguments of `footer`.
+#[derive(Drop)]
+pub struct FooterArgs {
+    /// The name of the Parquet file.
+    pub file: Text,
+    /// The name of the keys file.
+    pub keys: Text,
+    /// The prefix of the associated data, where one is supplied.
+    pub prefix: Option<AadPrefix>,
+    /// Whether a file whose pages aren't all authenticated is refused.
+    pub gcm_only: bool,
+}
+
+/// Parses a command line without the program's name. None where the words are no valid command.
 pub fn command_of(alloc: Global, words: &Words) -> Result<Option<Command>, OutOfMemory>
     ensures { IfOk result (λ command. command ≡ defined.command_of words.now) }
 {
@@ -90,11 +109,11 @@ fn module_with(
         return Ok(None);
     };
     let file = Text::copy_of(alloc, file)?;
-    Ok(Some(Command::Module {
+    Ok(Some(Command::Module(ModuleArgs {
         key,
         associated_data,
         file,
-    }))
+    })))
 }
 
 fn thrift_of(alloc: Global, options: &[Text]) -> Result<Option<Command>, OutOfMemory>
@@ -104,7 +123,7 @@ fn thrift_of(alloc: Global, options: &[Text]) -> Result<Option<Command>, OutOfMe
         return Ok(None);
     };
     let file = Text::copy_of(alloc, file)?;
-    Ok(Some(Command::Thrift { file }))
+    Ok(Some(Command::Thrift(ThriftArgs { file })))
 }
 
 fn footer_of(alloc: Global, options: &[Text]) -> Result<Option<Command>, OutOfMemory>
@@ -135,15 +154,15 @@ fn footer_with(
     };
     let file = Text::copy_of(alloc, file)?;
     let keys = Text::copy_of(alloc, keys)?;
-    Ok(Some(Command::Footer {
+    Ok(Some(Command::Footer(FooterArgs {
         file,
         keys,
         prefix,
         gcm_only,
-    }))
+    })))
 }
 
-/// The prefix that is supplied, or that none is; None where its text is no prefix.
+/// Parses the supplied prefix, if there is one. The outer None means that its text is no prefix.
 fn prefix_with(alloc: Global, text: Option<&str>) -> Result<Option<Option<AadPrefix>>, OutOfMemory>
     ensures { IfOk result (λ prefix. prefix ≡ defined.prefix_with (option_copied text.entry)) }
 {

@@ -1,4 +1,4 @@
-// The words of a command line: the table of commands with their options and flags, and the command that a line is.
+//! Parsing of the command line: the commands, their options and flags, and the arguments of each command.
 #![tactic(auto)]
 
 mod aad_prefix;
@@ -11,5 +11,5 @@ mod verb;
 
 pub use aad_prefix::AadPrefix;
 pub use associated_data::AssociatedData;
-pub use command::{Command, command_of};
+pub use command::{Command, FooterArgs, ModuleArgs, ThriftArgs, command_of};
 pub use laws::options_stand_in_any_order;

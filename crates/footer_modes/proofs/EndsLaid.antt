@@ -12,50 +12,50 @@ use Rattle.crypto_module.specs.Opening.{AreBytes}
 use Rattle.pme_base.proofs.Chain.{bind_ok, bind_at, tested, passed, when_false, not_true}
 use Rattle.crypto_module.proofs.Sealed.{below_take}
 use Rattle.footer_modes.specs.declared.ends.Ends.{Ends}
-use Rattle.footer_modes.specs.declared.mode.FooterMode.{FooterMode}
-use Rattle.footer_modes.specs.declared.mode.FooterMode.TheVariants.{Encrypted, Signed}
-use Rattle.footer_modes.specs.Ends.{magic_of, mode_of, begins, area_at, ends_within, ends_of, area_of}
+use Rattle.footer_modes.specs.declared.mode.Magic.{Magic}
+use Rattle.footer_modes.specs.declared.mode.Magic.TheVariants.{Pare, Par1}
+use Rattle.footer_modes.specs.Ends.{magic_bytes, known_magic, begins, area_at, ends_within, ends_of, area_of}
 
 abbrev back_of : List ℕ → List ℕ
 back_of bytes = take 8 (drop (length bytes - 8) bytes)
 
 pub record AreEnds (bytes : List ℕ) (ends : Ends) : Type 0 where
-  pub front : take 4 bytes ≡ magic_of ends.mode
-  pub last : drop 4 (take 8 (drop (length bytes - 8) bytes)) ≡ magic_of ends.mode
+  pub front : take 4 bytes ≡ magic_bytes ends.magic
+  pub last : drop 4 (take 8 (drop (length bytes - 8) bytes)) ≡ magic_bytes ends.magic
   pub counted : from_le_bytes w32 (take 4 (take 8 (drop (length bytes - 8) bytes))) ≡ ends.area
   pub inside : ends.data_end + ends.area + 8 ≡ length bytes
   pub least : 4 ≤ ends.data_end
   pub short : ends.area ≤ 16842752
 
-mode_by : (b c : Bool) (r : Refusal) (mode : FooterMode) (P : FooterMode → Type 0) → (b ≡ true → P Encrypted) → (c ≡ true → P Signed)
-    → (if b then Ok Encrypted else if c then Ok Signed else Err r) ≡ Ok mode → P mode
-mode_by true c r mode P p q e = let same : Encrypted ≡ mode = cc in subst P same (p refl)
-mode_by false true r mode P p q e = let same : Signed ≡ mode = cc in subst P same (q refl)
-mode_by false false r mode P p q e = cc
+magic_by : (b c : Bool) (r : Refusal) (magic : Magic) (P : Magic → Type 0) → (b ≡ true → P Pare) → (c ≡ true → P Par1)
+    → (if b then Ok Pare else if c then Ok Par1 else Err r) ≡ Ok magic → P magic
+magic_by true c r magic P p q e = let same : Pare ≡ magic = cc in subst P same (p refl)
+magic_by false true r magic P p q e = let same : Par1 ≡ magic = cc in subst P same (q refl)
+magic_by false false r magic P p q e = cc
 
-mode_is : (at : ℕ) (magic : List ℕ) (mode : FooterMode) → mode_of at magic ≡ Ok mode → magic ≡ magic_of mode
-mode_is at magic mode e =
-    mode_by (bytes_eq magic (magic_of Encrypted)) (bytes_eq magic (magic_of Signed)) _ mode (λ m. magic ≡ magic_of m)
-    (bytes_eq-Decides magic (magic_of Encrypted)).0 (bytes_eq-Decides magic (magic_of Signed)).0 e
+magic_is : (at : ℕ) (marks : List ℕ) (magic : Magic) → known_magic at marks ≡ Ok magic → marks ≡ magic_bytes magic
+magic_is at marks magic e =
+    magic_by (bytes_eq marks (magic_bytes Pare)) (bytes_eq marks (magic_bytes Par1)) _ magic (λ m. marks ≡ magic_bytes m)
+    (bytes_eq-Decides marks (magic_bytes Pare)).0 (bytes_eq-Decides marks (magic_bytes Par1)).0 e
 
-begins_is : (mode : FooterMode) (front : List ℕ) (u : Unit) → begins mode front ≡ Ok u → front ≡ magic_of mode
-begins_is mode front u e = (bytes_eq-Decides front (magic_of mode)).0 (tested (bytes_eq front (magic_of mode)) tt u _ e).0
+begins_is : (magic : Magic) (front : List ℕ) (u : Unit) → begins magic front ≡ Ok u → front ≡ magic_bytes magic
+begins_is magic front u e = (bytes_eq-Decides front (magic_bytes magic)).0 (tested (bytes_eq front (magic_bytes magic)) tt u _ e).0
 
 -- an area that is there
-record IsArea (size : ℕ) (mode : FooterMode) (count : ℕ) (ends : Ends) : Type 0 where
-  pub mode_is : ends.mode ≡ mode
+record IsArea (size : ℕ) (magic : Magic) (count : ℕ) (ends : Ends) : Type 0 where
+  pub magic_is : ends.magic ≡ magic
   pub area_is : ends.area ≡ count
   pub inside : ends.data_end + ends.area + 8 ≡ size
   pub least : 4 ≤ ends.data_end
   pub short : ends.area ≤ 16842752
 
-area_by : (size : ℕ) (mode : FooterMode) (count : ℕ) (ends : Ends) → 12 ≤ size → count ≤ size - 12 → count ≤ 16842752
-    → record { mode = mode; data_end = size - 8 - count; area = count } ≡ ends → IsArea size mode count ends
-area_by size mode count ends long fits short e =
+area_by : (size : ℕ) (magic : Magic) (count : ℕ) (ends : Ends) → 12 ≤ size → count ≤ size - 12 → count ≤ 16842752
+    → record { magic = magic; data_end = size - 8 - count; area = count } ≡ ends → IsArea size magic count ends
+area_by size magic count ends long fits short e =
     let place : size - 8 - count ≡ ends.data_end = ap (λ (x : Ends). x.data_end) e in
     let same : count ≡ ends.area = ap (λ (x : Ends). x.area) e in
     record {
-      mode_is = sym (ap (λ (x : Ends). x.mode) e);
+      magic_is = sym (ap (λ (x : Ends). x.magic) e);
       area_is = sym same;
       inside = omega (arith, place, same);
       least = omega (arith, place, same);
@@ -65,23 +65,23 @@ area_by size mode count ends long fits short e =
 pub no_less : (a b : ℕ) → nat_lt a b ≡ false → b ≤ a
 no_less a b e = grind (arith, nat_tests)
 
-at_is : (size : ℕ) (mode : FooterMode) (count : ℕ) (ends : Ends) → 12 ≤ size → area_at size mode count ≡ Ok ends → IsArea size mode count ends
-at_is size mode count ends long e =
+at_is : (size : ℕ) (magic : Magic) (count : ℕ) (ends : Ends) → 12 ≤ size → area_at size magic count ≡ Ok ends → IsArea size magic count ends
+at_is size magic count ends long e =
     let (fits, next) = passed (nat_lt (size - 12) count) _ _ ends e in
     let (short, made) = passed (nat_lt 16842752 count) _ _ ends next in
-    area_by size mode count ends long (no_less (size - 12) count fits) (no_less 16842752 count short) cc
+    area_by size magic count ends long (no_less (size - 12) count fits) (no_less 16842752 count short) cc
 
 pub ends_are : (bytes : List ℕ) (ends : Ends) → ends_of bytes ≡ Ok ends → AreEnds bytes ends
 ends_are bytes ends e =
     let (long, within) = passed (nat_lt (length bytes) 12) _ _ ends e in
     let twelve : 12 ≤ length bytes = no_less (length bytes) 12 long in
-    let (mode, by_last, after_mode) = bind_ok (mode_of (length bytes - 4) (drop 4 (back_of bytes))) _ ends within in
-    let (u, by_first, after_first) = bind_ok (begins mode (take 4 bytes)) _ ends after_mode in
-    let area = at_is (length bytes) mode (from_le_bytes w32 (take 4 (back_of bytes))) ends twelve after_first in
-    let same : mode ≡ ends.mode = sym area.mode_is in
+    let (magic, by_last, after_mode) = bind_ok (known_magic (length bytes - 4) (drop 4 (back_of bytes))) _ ends within in
+    let (u, by_first, after_first) = bind_ok (begins magic (take 4 bytes)) _ ends after_mode in
+    let area = at_is (length bytes) magic (from_le_bytes w32 (take 4 (back_of bytes))) ends twelve after_first in
+    let same : magic ≡ ends.magic = sym area.magic_is in
     record {
-      front = begins_is mode (take 4 bytes) u by_first ∙ ap magic_of same;
-      last = mode_is (length bytes - 4) (drop 4 (back_of bytes)) mode by_last ∙ ap magic_of same;
+      front = begins_is magic (take 4 bytes) u by_first ∙ ap magic_bytes same;
+      last = magic_is (length bytes - 4) (drop 4 (back_of bytes)) magic by_last ∙ ap magic_bytes same;
       counted = sym area.area_is;
       inside = area.inside;
       least = area.least;
@@ -99,7 +99,7 @@ area_length bytes ends are =
 
 -- the bytes of a file with these ends
 pub ends_cut : (bytes : List ℕ) (ends : Ends) → AreBytes bytes → AreEnds bytes ends
-    → bytes ≡ take ends.data_end bytes ++ (area_of ends bytes ++ (to_le_bytes w32 (length (area_of ends bytes)) ++ magic_of ends.mode))
+    → bytes ≡ take ends.data_end bytes ++ (area_of ends bytes ++ (to_le_bytes w32 (length (area_of ends bytes)) ++ magic_bytes ends.magic))
 ends_cut bytes ends each are =
     let back = drop (length bytes - 8) bytes in
     let eight : length back ≡ 8 = omega (arith, are.inside, length-drop (length bytes - 8) bytes) in
@@ -107,67 +107,67 @@ ends_cut bytes ends each are =
     let four : length (take 4 back) ≡ 4 = length-take-le 4 back (omega (arith, eight)) in
     let counted : from_le_bytes w32 (take 4 back) ≡ ends.area = ap (λ x. from_le_bytes w32 (take 4 x)) (sym whole) ∙ are.counted in
     let field : to_le_bytes w32 ends.area ≡ take 4 back = le_bytes_4 (take 4 back) ends.area four (below_take 4 back (below_drop (length bytes - 8) bytes each)) (sym counted) in
-    let last : drop 4 back ≡ magic_of ends.mode = ap (drop 4) (sym whole) ∙ are.last in
-    let back_is : back ≡ to_le_bytes w32 ends.area ++ magic_of ends.mode = sym (take-append-drop 4 back) ∙ (λ i. sym field i ++ last i) in
+    let last : drop 4 back ≡ magic_bytes ends.magic = ap (drop 4) (sym whole) ∙ are.last in
+    let back_is : back ≡ to_le_bytes w32 ends.area ++ magic_bytes ends.magic = sym (take-append-drop 4 back) ∙ (λ i. sym field i ++ last i) in
     let place : ends.data_end + ends.area ≡ length bytes - 8 = omega (arith, are.inside) in
     let rest : drop ends.area (drop ends.data_end bytes) ≡ back = drop-drop ends.area ends.data_end bytes ∙ ap (λ k. drop k bytes) place in
     let long = area_length bytes ends are in
     sym (take-append-drop ends.data_end bytes)
     ∙ ap (λ t. take ends.data_end bytes ++ t) (sym (take-append-drop ends.area (drop ends.data_end bytes))
-    ∙ ap (λ t. area_of ends bytes ++ t) (rest ∙ back_is ∙ ap (λ k. to_le_bytes w32 k ++ magic_of ends.mode) (sym long)))
+    ∙ ap (λ t. area_of ends bytes ++ t) (rest ∙ back_is ∙ ap (λ k. to_le_bytes w32 k ++ magic_bytes ends.magic) (sym long)))
 
 -- bytes that are laid out so
-magic_length : (mode : FooterMode) → length (magic_of mode) ≡ 4
-magic_length Encrypted = refl
-magic_length Signed = refl
+magic_length : (magic : Magic) → length (magic_bytes magic) ≡ 4
+magic_length Pare = refl
+magic_length Par1 = refl
 
-mode_from : (at : ℕ) (mode : FooterMode) → mode_of at (magic_of mode) ≡ Ok mode
-mode_from at Encrypted = refl
-mode_from at Signed = refl
+magic_from : (at : ℕ) (magic : Magic) → known_magic at (magic_bytes magic) ≡ Ok magic
+magic_from at Pare = refl
+magic_from at Par1 = refl
 
-begins_from : (mode : FooterMode) → begins mode (magic_of mode) ≡ Ok tt
-begins_from Encrypted = refl
-begins_from Signed = refl
+begins_from : (magic : Magic) → begins magic (magic_bytes magic) ≡ Ok tt
+begins_from Pare = refl
+begins_from Par1 = refl
 
-area_from : (size : ℕ) (mode : FooterMode) (data_end count : ℕ) → data_end + count + 8 ≡ size → 4 ≤ data_end → count ≤ 16842752
-    → area_at size mode count ≡ Ok (record { mode = mode; data_end = data_end; area = count })
-area_from size mode data_end count inside least short =
+area_from : (size : ℕ) (magic : Magic) (data_end count : ℕ) → data_end + count + 8 ≡ size → 4 ≤ data_end → count ≤ 16842752
+    → area_at size magic count ≡ Ok (record { magic = magic; data_end = data_end; area = count })
+area_from size magic data_end count inside least short =
     let place : size - 8 - count ≡ data_end = omega (arith, inside) in
     when_false (nat_lt (size - 12) count) _ _ (not_true (le-ltb (size - 12) count (omega (arith, inside, least))))
     ∙ when_false (nat_lt 16842752 count) _ _ (not_true (le-ltb 16842752 count short))
-    ∙ ap (λ (k : ℕ). Ok (record { mode = mode; data_end = k; area = count })) place
+    ∙ ap (λ (k : ℕ). Ok (record { magic = magic; data_end = k; area = count })) place
 
 -- the parts of a file
-pub record IsLaid (mode : FooterMode) (before area bytes : List ℕ) : Type 0 where
-  pub layout : bytes ≡ before ++ (area ++ (to_le_bytes w32 (length area) ++ magic_of mode))
-  pub begins_so : take 4 before ≡ magic_of mode
+pub record IsLaid (magic : Magic) (before area bytes : List ℕ) : Type 0 where
+  pub layout : bytes ≡ before ++ (area ++ (to_le_bytes w32 (length area) ++ magic_bytes magic))
+  pub begins_so : take 4 before ≡ magic_bytes magic
   pub short : length area ≤ 16842752
 
-pub ends_from : (mode : FooterMode) (before area bytes : List ℕ) → IsLaid mode before area bytes
-    → (ends_of bytes ≡ Ok (record { mode = mode; data_end = length before; area = length area }))
+pub ends_from : (magic : Magic) (before area bytes : List ℕ) → IsLaid magic before area bytes
+    → (ends_of bytes ≡ Ok (record { magic = magic; data_end = length before; area = length area }))
     × (take (length area) (drop (length before) bytes) ≡ area)
-ends_from mode before area bytes laid =
-    let back = to_le_bytes w32 (length area) ++ magic_of mode in
-    let eight : length back ≡ 8 = length-append (to_le_bytes w32 (length area)) (magic_of mode) ∙ ap (λ k. 4 + k) (magic_length mode) in
+ends_from magic before area bytes laid =
+    let back = to_le_bytes w32 (length area) ++ magic_bytes magic in
+    let eight : length back ≡ 8 = length-append (to_le_bytes w32 (length area)) (magic_bytes magic) ∙ ap (λ k. 4 + k) (magic_length magic) in
     let long : length bytes ≡ length before + length area + 8 =
     omega (arith, ap length laid.layout, length-append before (area ++ back), length-append area back, eight) in
-    let four : 4 ≤ length before = omega (arith, length-take 4 before, ap length laid.begins_so, magic_length mode) in
+    let four : 4 ≤ length before = omega (arith, length-take 4 before, ap length laid.begins_so, magic_length magic) in
     let after_rows : drop (length before) bytes ≡ area ++ back = ap (drop (length before)) laid.layout ∙ drop_at before (area ++ back) (length before) refl in
     let after_area : drop (length before + length area) bytes ≡ back =
     sym (drop-drop (length area) (length before) bytes) ∙ ap (drop (length area)) after_rows ∙ drop_at area back (length area) refl in
     let place : length bytes - 8 ≡ length before + length area = omega (arith, long) in
     let back_is : back_of bytes ≡ back = ap (λ k. take 8 (drop k bytes)) place ∙ ap (take 8) after_area ∙ take_all 8 back (omega (arith, eight)) in
-    let first : take 4 bytes ≡ magic_of mode = ap (take 4) laid.layout ∙ take-append-le 4 before (area ++ back) four ∙ laid.begins_so in
-    let last : drop 4 (back_of bytes) ≡ magic_of mode = ap (drop 4) back_is ∙ drop_at (to_le_bytes w32 (length area)) (magic_of mode) 4 refl in
-    let field : take 4 (back_of bytes) ≡ to_le_bytes w32 (length area) = ap (take 4) back_is ∙ take_at (to_le_bytes w32 (length area)) (magic_of mode) 4 refl in
+    let first : take 4 bytes ≡ magic_bytes magic = ap (take 4) laid.layout ∙ take-append-le 4 before (area ++ back) four ∙ laid.begins_so in
+    let last : drop 4 (back_of bytes) ≡ magic_bytes magic = ap (drop 4) back_is ∙ drop_at (to_le_bytes w32 (length area)) (magic_bytes magic) 4 refl in
+    let field : take 4 (back_of bytes) ≡ to_le_bytes w32 (length area) = ap (take 4) back_is ∙ take_at (to_le_bytes w32 (length area)) (magic_bytes magic) 4 refl in
     let counted : from_le_bytes w32 (take 4 (back_of bytes)) ≡ length area =
     ap (from_le_bytes w32) field ∙ from_le_bytes-to_le_bytes_4 (length area) (omega (arith, laid.short)) in
-    let by_last : mode_of (length bytes - 4) (drop 4 (back_of bytes)) ≡ Ok mode = ap (mode_of (length bytes - 4)) last ∙ mode_from (length bytes - 4) mode in
-    let by_first : begins mode (take 4 bytes) ≡ Ok tt = ap (begins mode) first ∙ begins_from mode in
-    let at_end : area_at (length bytes) mode (from_le_bytes w32 (take 4 (back_of bytes))) ≡ Ok (record { mode = mode; data_end = length before; area = length area }) =
-    ap (area_at (length bytes) mode) counted ∙ area_from (length bytes) mode (length before) (length area) (sym long) four laid.short in
-    let within : ends_within (length bytes) (take 4 bytes) (back_of bytes) ≡ Ok (record { mode = mode; data_end = length before; area = length area }) =
-    bind_at (mode_of (length bytes - 4) (drop 4 (back_of bytes))) _ mode by_last ∙ bind_at (begins mode (take 4 bytes)) _ tt by_first ∙ at_end in (
+    let by_last : known_magic (length bytes - 4) (drop 4 (back_of bytes)) ≡ Ok magic = ap (known_magic (length bytes - 4)) last ∙ magic_from (length bytes - 4) magic in
+    let by_first : begins magic (take 4 bytes) ≡ Ok tt = ap (begins magic) first ∙ begins_from magic in
+    let at_end : area_at (length bytes) magic (from_le_bytes w32 (take 4 (back_of bytes))) ≡ Ok (record { magic = magic; data_end = length before; area = length area }) =
+    ap (area_at (length bytes) magic) counted ∙ area_from (length bytes) magic (length before) (length area) (sym long) four laid.short in
+    let within : ends_within (length bytes) (take 4 bytes) (back_of bytes) ≡ Ok (record { magic = magic; data_end = length before; area = length area }) =
+    bind_at (known_magic (length bytes - 4) (drop 4 (back_of bytes))) _ magic by_last ∙ bind_at (begins magic (take 4 bytes)) _ tt by_first ∙ at_end in (
       when_false (nat_lt (length bytes) 12) _ _ (not_true (le-ltb (length bytes) 12 (omega (arith, long, four)))) ∙ within,
       ap (take (length area)) after_rows ∙ take_at area back (length area) refl,
     )

@@ -5,6 +5,7 @@ mod Lengths
 pub mod Parted
 mod RefusedAt
 mod PlannedRead
+pub mod StepsTaken
 pub mod TailsLaid
 mod Told
 pub mod WrittenRead

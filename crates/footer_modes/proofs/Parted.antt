@@ -1,5 +1,5 @@
 -- The parts of a footer's module or signature, by the bytes of its file.
-use Rattle.std.proofs.Common.{◌≡◌, ℕ, ◌+◌, ◌-◌, ◌≤◌, true, List, length, take, drop, refl, sym, ap, ◌∙◌, subst, arith, Ok}
+use Rattle.std.proofs.Common.{◌≡◌, ℕ, ◌+◌, ◌-◌, ◌≤◌, Bool, true, List, length, take, drop, Some, None, refl, sym, ap, ◌∙◌, subst, arith, Ok}
 use Rattle.std.proofs.lemmas.List.{drop-take, drop-drop, take-take, take_all, length-take-le, length-drop}
 use Rattle.std.proofs.lemmas.Slice.Eq.{bytes_eq-Decides}
 use Rattle.std.specs.Str.{bytes_eq}
@@ -12,58 +12,26 @@ use Rattle.crypto_module.specs.Frames.{gcm_size}
 use Rattle.crypto_module.specs.Modules.{nonce_of, cipher_of, stored_of}
 use Rattle.crypto_module.specs.Opening.{unsealed_whole, opened}
 use Rattle.crypto_module.proofs.Sizes.{IsSized, sized_is}
-use Rattle.key_rights.specs.Finding.{footer}
 use Rattle.parquet_fields.specs.Calls.{signing_at, split_signing}
+use Rattle.parquet_types.specs.declared.file_meta.FileMeta.{FileMeta}
 use Rattle.parquet_meta.specs.Footer.{file_meta_at}
 use Rattle.parquet_meta.proofs.FooterShaped.{read_shape}
 use Rattle.footer_rules.specs.Shape.{IsShaped}
 use Rattle.footer_modes.specs.declared.ends.Ends.{Ends}
 use Rattle.footer_modes.specs.declared.head.Head.{Head}
-use Rattle.footer_modes.specs.declared.mode.FooterMode.{FooterMode}
-use Rattle.footer_modes.specs.declared.mode.FooterMode.TheVariants.{Encrypted, Signed}
+use Rattle.footer_modes.specs.declared.head.AreaHead.{AreaHead}
+use Rattle.footer_modes.specs.declared.head.AreaHead.TheVariants.{Protected, Bare}
+use Rattle.footer_modes.specs.declared.mode.Magic.{Magic}
+use Rattle.footer_modes.specs.declared.mode.Magic.TheVariants.{Pare, Par1}
+use Rattle.footer_modes.specs.declared.tail.Protection.{Protection}
 use Rattle.footer_modes.specs.declared.tail.Tail.{Tail}
-use Rattle.footer_modes.specs.Ends.{footer_place, ends_of, area_of}
-use Rattle.footer_modes.specs.TailOf.{Asks, signed_head, head_of, allowed, aad_of, key_of, signature, checked_area, plain_of, footer_of, tail_of}
+use Rattle.footer_modes.specs.Ends.{footer_place, area_of}
+use Rattle.footer_modes.specs.TailOf.{Asks, plain_head, head_of, signature, checked_area, plain_of, crypto_of, footer_of, protection_of, protected_by, tail_of}
 use Rattle.footer_modes.specs.FooterParts.{module_of, signed_bytes, parts_by, footer_parts, FixFooter, IsPlaced}
 use Rattle.footer_modes.proofs.AreasLaid.{IsSignedHead, signed_head_is}
-use Rattle.footer_modes.proofs.EndsLaid.{AreEnds, ends_are, area_length}
-
--- the steps by which a tail was read
-pub record IsRead (asks : Asks) (bytes : List ℕ) (tail : Tail) : Type 0 where
-  pub ends : Ends
-  pub are : AreEnds bytes ends
-  pub head : Head
-  pub head_is : head_of tail.mode ends.data_end (area_of ends bytes) ≡ Ok head
-  pub plain : List ℕ
-  pub plain_is : plain_of tail.mode tail.footer_key tail.file_aad tail.at head.size (area_of ends bytes) ≡ Ok plain
-  pub footer_is : footer_of plain ≡ Ok tail.footer
-  pub data_end : tail.data_end ≡ ends.data_end
-  pub at : tail.at ≡ ends.data_end + head.size
-
-pub read_steps : (asks : Asks) (bytes : List ℕ) (tail : Tail) → tail_of asks bytes ≡ Ok tail → IsRead asks bytes tail
-read_steps asks bytes tail e =
-    let (ends, by_ends, after_ends) = bind_ok (ends_of bytes) _ tail e in
-    let area = area_of ends bytes in
-    let (head, by_head, after_head) = bind_ok (head_of ends.mode ends.data_end area) _ tail after_ends in
-    let (u, by_algorithm, after_algorithm) = bind_ok (allowed asks.gcm_only head.algorithm) _ tail after_head in
-    let (file, by_aad, after_aad) = bind_ok (aad_of head.algorithm asks.prefix) _ tail after_algorithm in
-    let (key, by_key, after_key) = bind_ok (key_of (asks.answer (footer head.metadata))) _ tail after_aad in
-    let (plain, by_bytes, after_bytes) = bind_ok (plain_of ends.mode key file (ends.data_end + head.size) head.size area) _ tail after_key in
-    let (meta, by_footer, made) = bind_ok (footer_of plain) _ tail after_bytes in
-    let read : Tail = record { mode = ends.mode; algorithm = head.algorithm; file_aad = file; footer = meta; footer_key = key; data_end = ends.data_end; at = ends.data_end + head.size } in
-    let same : read ≡ tail = ok_same {E = Refusal} read tail made in
-    let steps : IsRead asks bytes read = record {
-      ends = ends;
-      are = ends_are bytes ends by_ends;
-      head = head;
-      head_is = by_head;
-      plain = plain;
-      plain_is = by_bytes;
-      footer_is = by_footer;
-      data_end = refl;
-      at = refl;
-    } in
-    subst (λ t. IsRead asks bytes t) {x = read} same steps
+use Rattle.footer_modes.proofs.EndsLaid.{AreEnds, area_length}
+use Rattle.footer_modes.proofs.StepsTaken.{ProtectedSteps, StepsBy, steps_taken}
+use Rattle.footer_modes.proofs.TailsLaid.{same_magic}
 
 -- where the footer's module or signature stands in the bytes of the file, and what comes before it
 area_rest : (bytes : List ℕ) (ends : Ends) (size : ℕ) → AreEnds bytes ends → size ≤ ends.area
@@ -110,81 +78,137 @@ checked_parts key associated plain at size area e =
     record { tag_is = (bytes_eq-Decides expected (drop 12 (drop size area))).0 same; plain_is = is }
 
 -- the module or the signature is within the area
-signed_size : (at : ℕ) (area : List ℕ) (head : Head) → head_of Signed at area ≡ Ok head → length area ≡ head.size + 28
-signed_size at area head e =
-    let (read, is, made) = bind_ok (split_signing (signing_at footer_place area)) (λ r. signed_head (at + length area) (length area) r.0 r.1 r.2) head e in
-    let signed : IsSignedHead (length area) read.0 read.1 read.2 head = signed_head_is (at + length area) (length area) read.0 read.1 read.2 head made in
+signed_size : (allow_plain : Bool) (at : ℕ) (area : List ℕ) (head : Head) → head_of allow_plain Par1 at area ≡ Ok (Protected head) → length area ≡ head.size + 28
+signed_size allow_plain at area head e =
+    let (read, is, made) = bind_ok (split_signing (signing_at footer_place area)) (λ r. plain_head allow_plain (at + length area) (length area) r.0 r.1 r.2) (Protected head) e in
+    let signed : IsSignedHead (length area) read.0 read.1 read.2 head = signed_head_is allow_plain (at + length area) (length area) read.0 read.1 read.2 head made in
     omega (arith, signed.room_is, signed.size_is)
 
-within_area : (mode : FooterMode) (key file plain : List ℕ) (data_end at : ℕ) (area : List ℕ) (head : Head) → head_of mode data_end area ≡ Ok head
-    → plain_of mode key file at head.size area ≡ Ok plain → head.size + 28 ≤ length area
-within_area Encrypted key file plain data_end at area head h p =
+within_area : (allow_plain : Bool) (magic : Magic) (key file plain : List ℕ) (data_end at : ℕ) (area : List ℕ) (head : Head)
+    → head_of allow_plain magic data_end area ≡ Ok (Protected head) → plain_of magic key file at head.size area ≡ Ok plain → head.size + 28 ≤ length area
+within_area allow_plain Pare key file plain data_end at area head h p =
     omega (arith, (open_module key (aad file footer_place) plain (drop head.size area) at p).least, length-drop head.size area)
-within_area Signed key file plain data_end at area head h p = omega (arith, signed_size data_end area head h)
+within_area allow_plain Par1 key file plain data_end at area head h p = omega (arith, signed_size allow_plain data_end area head h)
 
 -- what the bytes of an area are in the file of the tail
 record StandsIn (tail : Tail) (bytes : List ℕ) (size : ℕ) (area : List ℕ) : Type 0 where
   pub rest : drop size area ≡ module_of tail bytes
   pub front : take size area ≡ signed_bytes tail bytes
 
-sealed_fixes : (tail : Tail) (bytes area plain : List ℕ) (size : ℕ) → StandsIn tail bytes size area
-    → plain_of Encrypted tail.footer_key tail.file_aad tail.at size area ≡ Ok plain → footer_of plain ≡ Ok tail.footer → FixFooter tail (parts_by Encrypted tail bytes)
-sealed_fixes tail bytes area plain size stands p read =
+sealed_fixes : (tail : Tail) (protection : Protection) (bytes area : List ℕ) (size : ℕ) → StandsIn tail bytes size area
+    → plain_of Pare protection.footer_key protection.file_aad tail.at size area ≡ Ok tail.footer_bytes → footer_of tail.footer_bytes ≡ Ok tail.footer
+    → FixFooter tail protection (parts_by Pare tail protection bytes)
+sealed_fixes tail protection bytes area size stands p read =
     let m = module_of tail bytes in
-    let whole = ap (opened tail.footer_key (aad tail.file_aad footer_place) footer_place tail.at 16777216 true) (sym stands.rest) ∙ p in
-    let is : IsOpen tail.footer_key (aad tail.file_aad footer_place) plain m = open_module tail.footer_key (aad tail.file_aad footer_place) plain m tail.at whole in
+    let key = protection.footer_key in
+    let associated = aad protection.file_aad footer_place in
+    let whole = ap (opened key associated footer_place tail.at 16777216 true) (sym stands.rest) ∙ p in
+    let is : IsOpen key associated tail.footer_bytes m = open_module key associated tail.footer_bytes m tail.at whole in
     record {
       nonce_length = length-take-le 12 (drop 4 m) (omega (arith, is.least, length-drop 4 m));
       tag_length = omega (arith, is.least, length-drop (length m - 16) m);
       tag = is.tag_is;
+      plain = is.plain_is;
       footer = ap footer_of is.plain_is ∙ read;
     }
 
-signed_fixes : (tail : Tail) (bytes area plain : List ℕ) (size : ℕ) → StandsIn tail bytes size area → length area ≡ size + 28
-    → plain_of Signed tail.footer_key tail.file_aad tail.at size area ≡ Ok plain → footer_of plain ≡ Ok tail.footer → FixFooter tail (parts_by Signed tail bytes)
-signed_fixes tail bytes area plain size stands long p read =
+signed_fixes : (tail : Tail) (protection : Protection) (bytes area : List ℕ) (size : ℕ) → StandsIn tail bytes size area → length area ≡ size + 28
+    → plain_of Par1 protection.footer_key protection.file_aad tail.at size area ≡ Ok tail.footer_bytes → footer_of tail.footer_bytes ≡ Ok tail.footer
+    → FixFooter tail protection (parts_by Par1 tail protection bytes)
+signed_fixes tail protection bytes area size stands long p read =
     let m = module_of tail bytes in
-    let is = checked_parts tail.footer_key (aad tail.file_aad footer_place) plain tail.at size area p in
+    let key = protection.footer_key in
+    let associated = aad protection.file_aad footer_place in
+    let is = checked_parts key associated tail.footer_bytes tail.at size area p in
     let count : length m ≡ 28 = ap length (sym stands.rest) ∙ length-drop size area ∙ (let left : length area - size ≡ 28 = omega (arith, long) in left) in
-    let plain_is : signed_bytes tail bytes ≡ plain = sym stands.front ∙ is.plain_is in
+    let plain_is : signed_bytes tail bytes ≡ tail.footer_bytes = sym stands.front ∙ is.plain_is in
+    let twice : gctr key (take 12 m) 2 (gctr key (take 12 m) 2 (signed_bytes tail bytes)) ≡ tail.footer_bytes = gctr_twice key (take 12 m) 2 (signed_bytes tail bytes) ∙ plain_is in
     record {
       nonce_length = length-take-le 12 m (omega (arith, count));
       tag_length = length-drop 12 m ∙ (let left : length m - 12 ≡ 16 = omega (arith, count) in left);
-      tag = (λ i. signature tail.footer_key (aad tail.file_aad footer_place) (take 12 (sym stands.rest i)) (sym stands.front i)) ∙ is.tag_is ∙ ap (drop 12) stands.rest;
-      footer = ap footer_of (gctr_twice tail.footer_key (take 12 m) 2 (signed_bytes tail bytes) ∙ plain_is) ∙ read;
+      tag = (λ i. signature key associated (take 12 (sym stands.rest i)) (sym stands.front i)) ∙ is.tag_is ∙ ap (drop 12) stands.rest;
+      plain = twice;
+      footer = ap footer_of twice ∙ read;
     }
 
-parts_by_fix : (mode : FooterMode) (tail : Tail) (bytes area plain : List ℕ) (data_end : ℕ) (head : Head) → StandsIn tail bytes head.size area
-    → head_of mode data_end area ≡ Ok head → plain_of mode tail.footer_key tail.file_aad tail.at head.size area ≡ Ok plain → footer_of plain ≡ Ok tail.footer
-    → FixFooter tail (parts_by mode tail bytes)
-parts_by_fix Encrypted tail bytes area plain data_end head stands h p read = sealed_fixes tail bytes area plain head.size stands p read
-parts_by_fix Signed tail bytes area plain data_end head stands h p read = signed_fixes tail bytes area plain head.size stands (signed_size data_end area head h) p read
+parts_by_fix : (allow_plain : Bool) (magic : Magic) (tail : Tail) (protection : Protection) (bytes area : List ℕ) (data_end : ℕ) (head : Head) → StandsIn tail bytes head.size area
+    → head_of allow_plain magic data_end area ≡ Ok (Protected head) → plain_of magic protection.footer_key protection.file_aad tail.at head.size area ≡ Ok tail.footer_bytes
+    → footer_of tail.footer_bytes ≡ Ok tail.footer → FixFooter tail protection (parts_by magic tail protection bytes)
+parts_by_fix allow_plain Pare tail protection bytes area data_end head stands h p read = sealed_fixes tail protection bytes area head.size stands p read
+parts_by_fix allow_plain Par1 tail protection bytes area data_end head stands h p read =
+    signed_fixes tail protection bytes area head.size stands (signed_size allow_plain data_end area head h) p read
 
-read_within : (asks : Asks) (bytes : List ℕ) (tail : Tail) → (r : IsRead asks bytes tail) → r.head.size + 28 ≤ r.ends.area
-read_within asks bytes tail r =
-    omega (arith, within_area tail.mode tail.footer_key tail.file_aad r.plain r.ends.data_end tail.at (area_of r.ends bytes) r.head r.head_is r.plain_is, area_length bytes r.ends r.are)
+protected_within : (asks : Asks) (bytes : List ℕ) (tail : Tail) (ends : Ends) (head : Head) → AreEnds bytes ends
+    → head_of asks.allow_plain ends.magic ends.data_end (area_of ends bytes) ≡ Ok (Protected head)
+    → ProtectedSteps asks ends.magic ends.data_end (area_of ends bytes) head tail → head.size + 28 ≤ ends.area
+protected_within asks bytes tail ends head are by_head steps =
+    let area = area_of ends bytes in
+    omega (arith, within_area asks.allow_plain ends.magic steps.key steps.file steps.plain ends.data_end (ends.data_end + head.size) area head by_head steps.plain_is, area_length bytes ends are)
 
-pub parts_fix : (asks : Asks) (bytes : List ℕ) (tail : Tail) → tail_of asks bytes ≡ Ok tail → FixFooter tail (footer_parts tail bytes)
-parts_fix asks bytes tail e =
-    let r = read_steps asks bytes tail e in
-    let within : r.head.size ≤ r.ends.area = omega (arith, read_within asks bytes tail r) in
-    let stands : StandsIn tail bytes r.head.size (area_of r.ends bytes) = record {
-      rest = area_rest bytes r.ends r.head.size r.are within ∙ ap (λ n. take (length bytes - 8 - n) (drop n bytes)) (sym r.at);
-      front = area_front bytes r.ends r.head.size within ∙ (λ i. take (sym r.at i - sym r.data_end i) (drop (sym r.data_end i) bytes));
+protected_fix : (asks : Asks) (bytes : List ℕ) (tail : Tail) (ends : Ends) (head : Head) (protection : Protection) → AreEnds bytes ends
+    → head_of asks.allow_plain ends.magic ends.data_end (area_of ends bytes) ≡ Ok (Protected head)
+    → ProtectedSteps asks ends.magic ends.data_end (area_of ends bytes) head tail → tail.protection ≡ Some protection
+    → FixFooter tail protection (footer_parts tail protection bytes)
+protected_fix asks bytes tail ends head protection are by_head steps protection_is =
+    let area = area_of ends bytes in
+    let within : head.size ≤ ends.area = omega (arith, protected_within asks bytes tail ends head are by_head steps) in
+    let made : Protection = protection_of head steps.file steps.key (crypto_of ends.magic head.size area) in
+    let read : Tail = protected_by ends.magic ends.data_end head made steps.plain steps.meta in
+    let stands : StandsIn read bytes head.size area = record {
+      rest = area_rest bytes ends head.size are within;
+      front = area_front bytes ends head.size within;
     } in
-    parts_by_fix tail.mode tail bytes (area_of r.ends bytes) r.plain r.ends.data_end r.head stands r.head_is r.plain_is r.footer_is
+    let fixed : FixFooter read made (parts_by ends.magic read made bytes) =
+    parts_by_fix asks.allow_plain ends.magic read made bytes area ends.data_end head stands by_head steps.plain_is steps.footer_is in
+    let by_mode : FixFooter read made (footer_parts read made bytes) = subst (λ (m : Magic). FixFooter read made (parts_by m read made bytes)) (sym (same_magic ends.magic)) fixed in
+    let joined : Some made ≡ Some protection = ap (λ (t : Tail). t.protection) steps.is ∙ protection_is in
+    let same : made ≡ protection = cc in
+    let of_tail : FixFooter tail made (footer_parts tail made bytes) = subst (λ (t : Tail). FixFooter t made (footer_parts t made bytes)) {x = read} steps.is by_mode in
+    subst (λ (q : Protection). FixFooter tail q (footer_parts tail q bytes)) {x = made} same of_tail
+
+fix_by : (asks : Asks) (bytes : List ℕ) (tail : Tail) (ends : Ends) (head : AreaHead) (protection : Protection) → AreEnds bytes ends
+    → head_of asks.allow_plain ends.magic ends.data_end (area_of ends bytes) ≡ Ok head
+    → StepsBy asks ends.magic ends.data_end (area_of ends bytes) head tail → tail.protection ≡ Some protection
+    → FixFooter tail protection (footer_parts tail protection bytes)
+fix_by asks bytes tail ends (Protected head) protection are by_head steps is = protected_fix asks bytes tail ends head protection are by_head steps is
+fix_by asks bytes tail ends (Bare size) protection are by_head steps is =
+    let none : None ≡ Some protection = ap (λ (t : Tail). t.protection) steps.is ∙ is in
+    absurd cc
+
+pub parts_fix : (asks : Asks) (bytes : List ℕ) (tail : Tail) (protection : Protection) → tail_of asks bytes ≡ Ok tail → tail.protection ≡ Some protection
+    → FixFooter tail protection (footer_parts tail protection bytes)
+parts_fix asks bytes tail protection e is =
+    let taken = steps_taken asks bytes tail e in
+    fix_by asks bytes tail taken.ends taken.head protection taken.are taken.head_is taken.steps is
+
+placed_by : (asks : Asks) (bytes : List ℕ) (tail : Tail) (ends : Ends) (head : AreaHead) → AreEnds bytes ends
+    → head_of asks.allow_plain ends.magic ends.data_end (area_of ends bytes) ≡ Ok head
+    → StepsBy asks ends.magic ends.data_end (area_of ends bytes) head tail → IsPlaced tail bytes
+placed_by asks bytes tail ends (Protected head) are by_head steps =
+    subst (λ (t : Tail). IsPlaced t bytes) steps.is (record {
+      behind_data = omega arith;
+      area = omega (arith, are.inside);
+      inside = omega (arith, are.inside, protected_within asks bytes tail ends head are by_head steps);
+    })
+placed_by asks bytes tail ends (Bare size) are by_head steps =
+    subst (λ (t : Tail). IsPlaced t bytes) steps.is (record { behind_data = omega arith; area = omega (arith, are.inside); inside = tt })
 
 pub tail_placed : (asks : Asks) (bytes : List ℕ) (tail : Tail) → tail_of asks bytes ≡ Ok tail → IsPlaced tail bytes
 tail_placed asks bytes tail e =
-    let r = read_steps asks bytes tail e in
-    record {
-      behind_data = omega (arith, r.at, r.data_end);
-      inside = omega (arith, r.at, r.are.inside, read_within asks bytes tail r);
-    }
+    let taken = steps_taken asks bytes tail e in
+    placed_by asks bytes tail taken.ends taken.head taken.are taken.head_is taken.steps
+
+footer_shape : (plain : List ℕ) (meta : FileMeta) → footer_of plain ≡ Ok meta → IsShaped meta
+footer_shape plain meta e =
+    let (read, is, made) = bind_ok (file_meta_at footer_place plain) (λ x. Ok x.0) meta e in
+    let same : read.0 ≡ meta = ok_same {E = Refusal} read.0 meta made in
+    subst IsShaped same (read_shape footer_place plain read.0 read.1 is)
+
+shape_by : (asks : Asks) (magic : Magic) (data_end : ℕ) (area : List ℕ) (head : AreaHead) (tail : Tail) → StepsBy asks magic data_end area head tail → IsShaped tail.footer
+shape_by asks magic data_end area (Protected head) tail steps = subst (λ (t : Tail). IsShaped t.footer) steps.is (footer_shape steps.plain steps.meta steps.footer_is)
+shape_by asks magic data_end area (Bare size) tail steps = subst (λ (t : Tail). IsShaped t.footer) steps.is (footer_shape (take size area) steps.meta steps.footer_is)
 
 pub tail_shape : (asks : Asks) (bytes : List ℕ) (tail : Tail) → tail_of asks bytes ≡ Ok tail → IsShaped tail.footer
 tail_shape asks bytes tail e =
-    let r = read_steps asks bytes tail e in
-    let (read, is, made) = bind_ok (file_meta_at footer_place r.plain) (λ x. Ok x.0) tail.footer r.footer_is in
-    let same : read.0 ≡ tail.footer = ok_same {E = Refusal} read.0 tail.footer made in
-    subst IsShaped same (read_shape footer_place r.plain read.0 read.1 is)
+    let taken = steps_taken asks bytes tail e in
+    shape_by asks taken.ends.magic taken.ends.data_end (area_of taken.ends bytes) taken.head tail taken.steps

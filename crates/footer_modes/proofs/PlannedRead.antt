@@ -12,7 +12,7 @@ use Rattle.parquet_writing.specs.Fitting.{FitsAlgorithm}
 use Rattle.parquet_meta.specs.Footer.{file_meta_at}
 use Rattle.parquet_meta.specs.ReadBack.{plan_fields, signed_by}
 use Rattle.parquet_meta.proofs.ReadBackProved.{file_crypto_read, file_meta_read, signing_read}
-use Rattle.footer_modes.specs.declared.mode.FooterMode.TheVariants.{Encrypted, Signed}
+use Rattle.footer_modes.specs.declared.mode.Magic.TheVariants.{Pare, Par1}
 use Rattle.footer_modes.specs.Ends.{footer_place}
 use Rattle.footer_modes.specs.TailOf.{Asks, tail_of, footer_of}
 use Rattle.footer_modes.specs.Written.{encrypted_area, signed_area, encrypted_tail, signed_tail, is_too_large}
@@ -39,26 +39,26 @@ plan_read plan f is =
     let read = ap (file_meta_at footer_place) (sym (append-nil bytes)) ∙ file_meta_read footer_place plan [] is.fits is.numbers in
     ap (λ r. (r >>= without_size) >>= f) read ∙ alone (length bytes) (file_of footer_place (plan_fields plan)) f
 
-pub encrypted_plan_read : (asks : Asks) (key file nonce metadata before : List ℕ) (algorithm : AlgorithmMeta) (plan : FooterPlan) → Begins Encrypted before → length nonce ≡ 12
+pub encrypted_plan_read : (asks : Asks) (key file nonce metadata before : List ℕ) (algorithm : AlgorithmMeta) (plan : FooterPlan) → Begins Pare before → length nonce ≡ 12
     → FitsAlgorithm algorithm → IsSmall (length metadata) → IsPlan plan
     → is_too_large (footer_bytes plan) (encrypted_area key file nonce (crypto_bytes algorithm metadata) (footer_bytes plan)) ≡ false
     → CanOpen asks algorithm (Some metadata) key file
     → tail_of asks (before ++ encrypted_tail key file nonce (crypto_bytes algorithm metadata) (footer_bytes plan))
-    ≡ (file_of footer_place (plan_fields plan) >>= λ meta. Ok (tail_with Encrypted algorithm file key (length before) (length before + length (crypto_bytes algorithm metadata)) meta))
+    ≡ (file_of footer_place (plan_fields plan) >>= λ meta. Ok (tail_with Pare algorithm file key (crypto_bytes algorithm metadata) (footer_bytes plan) (length before) (length before + length (crypto_bytes algorithm metadata)) meta))
 encrypted_plan_read asks key file nonce metadata before algorithm plan first twelve fits small_metadata is small can =
     let crypto = crypto_bytes algorithm metadata in
     encrypted_read asks key file nonce crypto (footer_bytes plan) before (record { algorithm = algorithm; key_metadata = Some metadata }) first twelve small
     (λ rest. file_crypto_read footer_place algorithm metadata rest fits small_metadata) can
-    ∙ plan_read plan (λ meta. Ok (tail_with Encrypted algorithm file key (length before) (length before + length crypto) meta)) is
+    ∙ plan_read plan (λ meta. Ok (tail_with Pare algorithm file key crypto (footer_bytes plan) (length before) (length before + length crypto) meta)) is
 
-pub signed_plan_read : (asks : Asks) (key file nonce before : List ℕ) (algorithm : AlgorithmMeta) (plan : FooterPlan) → Begins Signed before → length nonce ≡ 12
+pub signed_plan_read : (asks : Asks) (key file nonce before : List ℕ) (algorithm : AlgorithmMeta) (plan : FooterPlan) → Begins Par1 before → length nonce ≡ 12
     → IsPlan plan → plan.algorithm ≡ Some algorithm
     → is_too_large (footer_bytes plan) (signed_area key file nonce (footer_bytes plan)) ≡ false
     → CanOpen asks algorithm plan.signing_key_metadata key file
     → tail_of asks (before ++ signed_tail key file nonce (footer_bytes plan))
-    ≡ (file_of footer_place (plan_fields plan) >>= λ meta. Ok (tail_with Signed algorithm file key (length before) (length before + length (footer_bytes plan)) meta))
+    ≡ (file_of footer_place (plan_fields plan) >>= λ meta. Ok (tail_with Par1 algorithm file key [] (footer_bytes plan) (length before) (length before + length (footer_bytes plan)) meta))
 signed_plan_read asks key file nonce before algorithm plan first twelve is signs small can =
     let bytes = footer_bytes plan in
     signed_read asks key file nonce bytes before algorithm plan.signing_key_metadata first twelve small
     (λ rest. signing_read footer_place plan rest is.fits is.numbers ∙ ap (λ a. Ok (signed_by a plan.signing_key_metadata, length bytes)) signs) can
-    ∙ plan_read plan (λ meta. Ok (tail_with Signed algorithm file key (length before) (length before + length bytes) meta)) is
+    ∙ plan_read plan (λ meta. Ok (tail_with Par1 algorithm file key [] bytes (length before) (length before + length bytes) meta)) is

@@ -1,4 +1,4 @@
--- Which causes the refusals of each step have, and when a finder of keys is to blame.
+-- The causes of the refusals of each step, and when a key finder failed.
 use Rattle.std.specs.Prelude.{◌≡◌, ◌⊎◌, ℕ, ◌<◌, ◌≤◌, Bool, true, false, Result, IfErr}
 use Rattle.pme_base.specs.declared.refusal.Cause.{Cause}
 use Rattle.pme_base.specs.declared.refusal.Cause.TheVariants.{Truncated, BadLength, BadTag, BadMagic, BadMaterial, NoMaterial, WrapTag, KeyLength, BadFooterLength, NotEncrypted, PrefixNeeded, PrefixUnused, PrefixDiffers, FooterKeyMissing, AlgorithmRefused, TooLarge, NoFile, ReadFault, ServiceFault, OutOfMemory}
@@ -11,11 +11,12 @@ use Rattle.parquet_fields.specs.Causes.{is_struct_cause}
 use Rattle.parquet_meta.specs.Footer.{is_file_cause}
 use Rattle.footer_modes.specs.Ends.{file_place, footer_place}
 
-abbrev pub is_reading_cause : Cause → Bool
-is_reading_cause Truncated = true
-is_reading_cause ReadFault = true
-is_reading_cause OutOfMemory = true
-is_reading_cause _ = false
+-- of reading a given number of bytes
+abbrev pub is_short_cause : Cause → Bool
+is_short_cause Truncated = true
+is_short_cause ReadFault = true
+is_short_cause OutOfMemory = true
+is_short_cause _ = false
 
 -- of the ends of a file
 abbrev pub is_ends_cause : Cause → Bool
@@ -23,7 +24,7 @@ is_ends_cause NoFile = true
 is_ends_cause BadMagic = true
 is_ends_cause BadFooterLength = true
 is_ends_cause TooLarge = true
-is_ends_cause cause = is_reading_cause cause
+is_ends_cause cause = is_short_cause cause
 
 -- of what stands at the front of the area
 abbrev pub is_head_cause : Cause → Bool
@@ -81,24 +82,24 @@ is_metadata_cause Truncated = true
 is_metadata_cause ReadFault = true
 is_metadata_cause cause = is_head_cause cause
 
--- the count of faults of a finder of keys never falls, and a step answers ServiceFault only where it rose
+-- ServiceFault comes only where the number of the finder's failed calls rose
 pub record FinderFails {T : Type 0} (before now : ℕ) (result : Result T Refusal) : Type 0 where
   pub later : before ≤ now
   pub failed : IfErr result (λ refusal. refusal.cause ≡ ServiceFault → Rose before now)
 
--- a file gave fewer bytes from this offset on than its size told, where bytes of this place were read
+-- a file gave fewer bytes at this offset than its size promised, where bytes of this place were read
 pub record IsShortRead (place : Place) (at needed : ℕ) (refusal : Refusal) : Type 0 where
   pub there : ℕ
   pub fewer : there < needed
   pub is : refusal ≡ pair_refusal Truncated place at needed there
 
--- fewer bytes of a file's two ends, which have 12 bytes, than its size told
+-- a file gave fewer bytes of its two ends, which have 12 bytes, than its size promised
 pub record IsShortEnd (refusal : Refusal) : Type 0 where
   pub at : ℕ
   pub needed : ℕ
   pub few : needed ≤ 12
   pub short : IsShortRead file_place at needed refusal
 
--- where a file that is too short is refused: at the file where its ends are read, and else at the footer
+-- where a Truncated stands: at the file while its ends are read, else at the footer
 abbrev pub TellsShort : Refusal → Type 0
 TellsShort refusal = refusal.cause ≡ Truncated → IsShortEnd refusal ⊎ (refusal.place ≡ footer_place)

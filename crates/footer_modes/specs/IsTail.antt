@@ -1,6 +1,6 @@
--- What it is that a file ends with a footer, as the format lays it out ("Parquet Modular Encryption", "Encrypted footer
--- mode" and "Plaintext footer mode"), and that a reader takes it.
-use Rattle.std.specs.Prelude.{◌≡◌, ◌↔◌, ℕ, ◌+◌, ◌≤◌, Bool, true, false, List, [], ◌++◌, length, take, drop, Option, Some, None, IfSome, Ok}
+-- The layout of the end of a file with its footer ("Parquet Modular Encryption", "Encrypted footer mode" and "Plaintext
+-- footer mode"), as a relation between the bytes of the file and the tail that a reader has of them.
+use Rattle.std.specs.Prelude.{◌≡◌, ◌↔◌, ℕ, ◌+◌, ◌≤◌, Bool, true, false, List, [], ◌++◌, length, take, drop, Option, Some, None, IfSome, IsSome, Ok}
 use Rattle.std.specs.Int.{w32, to_le_bytes}
 use Rattle.gcm_seal.specs.Gcm.{seal}
 use Rattle.module_aad.specs.Aad.{aad}
@@ -12,10 +12,13 @@ use Rattle.parquet_types.specs.declared.file_meta.AlgorithmMeta.{AlgorithmMeta}
 use Rattle.parquet_fields.specs.Calls.{file_crypto_at, signing_at}
 use Rattle.parquet_meta.specs.Footer.{file_meta_at}
 use Rattle.footer_modes.specs.declared.mode.FooterMode.{FooterMode}
-use Rattle.footer_modes.specs.declared.mode.FooterMode.TheVariants.{Encrypted, Signed}
+use Rattle.footer_modes.specs.declared.mode.FooterMode.TheVariants.{Encrypted, Signed, Unencrypted}
+use Rattle.footer_modes.specs.declared.mode.Magic.{Magic}
+use Rattle.footer_modes.specs.declared.mode.Magic.TheVariants.{Pare, Par1}
 use Rattle.footer_modes.specs.declared.tail.Tail.{Tail}
-use Rattle.footer_modes.specs.Ends.{footer_place, magic_of}
-use Rattle.footer_modes.specs.TailOf.{Asks, tail_of}
+use Rattle.footer_modes.specs.declared.tail.Protection.{Protection}
+use Rattle.footer_modes.specs.Ends.{footer_place, magic_bytes, magic_of}
+use Rattle.footer_modes.specs.TailOf.{Asks, crypto_of, are_plain, tail_of}
 
 -- the prefix of the associated data, where the file stores this, asks for a supplied one or not, and this is supplied
 abbrev pub IsPrefix : Option (List ℕ) → Bool → Option (List ℕ) → List ℕ → Type 0
@@ -54,35 +57,59 @@ pub record IsSignedArea (s : Sealing) (plain : List ℕ) (front : ℕ) (area : L
   pub front_is : front ≡ length plain
   pub signing : signing_at footer_place area ≡ Ok ((Some s.algorithm, s.metadata), front)
 
-abbrev pub IsArea : FooterMode → Sealing → List ℕ → ℕ → List ℕ → Type 0
-IsArea Encrypted s plain front area = IsSealedArea s plain front area
-IsArea Signed s plain front area = IsSignedArea s plain front area
+abbrev pub IsArea : Magic → Sealing → List ℕ → ℕ → List ℕ → Type 0
+IsArea Pare s plain front area = IsSealedArea s plain front area
+IsArea Par1 s plain front area = IsSignedArea s plain front area
 
-abbrev pub sealing_of : Tail → Option (List ℕ) → Sealing
-sealing_of tail metadata = record { key = tail.footer_key; file = tail.file_aad; algorithm = tail.algorithm; metadata = metadata }
+abbrev pub sealing_of : Protection → Option (List ℕ) → Sealing
+sealing_of protection metadata = record { key = protection.footer_key; file = protection.file_aad; algorithm = protection.algorithm; metadata = metadata }
 
--- a file of these bytes ends with this tail, and a reader who asks so takes it
+-- the footer area of an encrypted or signed footer, and that the reader accepts its algorithm and has its prefix and key
+pub record IsProtected (asks : Asks) (tail : Tail) (protection : Protection) (magic : Magic) (area : List ℕ) : Type 0 where
+  pub metadata : Option (List ℕ)
+  pub front : ℕ
+  pub holds : IsArea magic (sealing_of protection metadata) tail.footer_bytes front area
+  pub crypto_bytes : protection.crypto_bytes ≡ crypto_of magic front area
+  pub at : tail.at ≡ tail.data_end + front
+  pub taken : asks.gcm_only ≡ true → protection.algorithm.ctr ≡ false
+  pub file_aad : IsFileAad protection.algorithm asks.prefix protection.file_aad
+  pub key : asks.answer (footer metadata) ≡ Held protection.footer_key
+
+-- the footer area of an unencrypted footer, whose struct names no algorithm: the struct's bytes, and any bytes after it. The
+-- reader accepts unencrypted files and supplies no prefix
+pub record IsBare (asks : Asks) (tail : Tail) (area : List ℕ) : Type 0 where
+  pub metadata : Option (List ℕ)
+  pub front : ℕ
+  pub allowed : asks.allow_plain ≡ true
+  pub unsupplied : asks.prefix ≡ None
+  pub signing : signing_at footer_place area ≡ Ok ((None, metadata), front)
+  pub footer_bytes : tail.footer_bytes ≡ take front area
+  pub at : tail.at ≡ tail.data_end
+  pub chunks : are_plain tail.footer.groups ≡ true
+
+-- the footer area by its mode; only an unencrypted footer has no protection
+abbrev pub IsFooterArea : Asks → Tail → FooterMode → Option Protection → List ℕ → Type 0
+IsFooterArea asks tail Encrypted (Some protection) area = IsProtected asks tail protection Pare area
+IsFooterArea asks tail Signed (Some protection) area = IsProtected asks tail protection Par1 area
+IsFooterArea asks tail Unencrypted None area = IsBare asks tail area
+IsFooterArea asks tail Encrypted None area = ⊥
+IsFooterArea asks tail Signed None area = ⊥
+IsFooterArea asks tail Unencrypted (Some protection) area = ⊥
+
+-- a file of these bytes ends with this tail, and a reader who asks so accepts it
 pub record IsTail (asks : Asks) (bytes : List ℕ) (tail : Tail) : Type 0 where
-  -- the data, the footer area and the footer's own bytes
+  -- the data and the footer area
   pub before : List ℕ
   pub area : List ℕ
-  pub plain : List ℕ
-  pub layout : bytes ≡ before ++ (area ++ (to_le_bytes w32 (length area) ++ magic_of tail.mode))
-  pub begins : take 4 before ≡ magic_of tail.mode
+  pub layout : bytes ≡ before ++ (area ++ (to_le_bytes w32 (length area) ++ magic_bytes (magic_of tail.mode)))
+  pub begins : take 4 before ≡ magic_bytes (magic_of tail.mode)
   pub short : length area ≤ 16842752
   pub data_end : tail.data_end ≡ length before
   -- what stands in the area
-  pub metadata : Option (List ℕ)
-  pub front : ℕ
-  pub holds : IsArea tail.mode (sealing_of tail metadata) plain front area
-  pub at : tail.at ≡ tail.data_end + front
-  -- the reader's part
-  pub taken : asks.gcm_only ≡ true → tail.algorithm.ctr ≡ false
-  pub file_aad : IsFileAad tail.algorithm asks.prefix tail.file_aad
-  pub key : asks.answer (footer metadata) ≡ Held tail.footer_key
+  pub holds : IsFooterArea asks tail tail.mode tail.protection area
   -- the footer at the front of its bytes
   pub size : ℕ
-  pub footer : file_meta_at footer_place plain ≡ Ok (tail.footer, size)
+  pub footer : file_meta_at footer_place tail.footer_bytes ≡ Ok (tail.footer, size)
 
 -- the tail that is defined by reading is the one that the format lays out, and there is no other
 abbrev pub TailsAreLaidOut : Type 0
@@ -91,3 +118,12 @@ TailsAreLaidOut = (asks : Asks) (bytes : List ℕ) (tail : Tail) → AreBytes by
 -- and bytes that are laid out so are read to it, whatever they are
 abbrev pub LaidTailsAreRead : Type 0
 LaidTailsAreRead = (asks : Asks) (bytes : List ℕ) (tail : Tail) → IsTail asks bytes tail → tail_of asks bytes ≡ Ok tail
+
+-- only an unencrypted footer has no protection, and a reader without the flag for unencrypted files is given none
+pub record HasItsMode (asks : Asks) (tail : Tail) : Type 0 where
+  pub exactly : (tail.protection ≡ None) ↔ (tail.mode ≡ Unencrypted)
+  pub flagged : asks.allow_plain ≡ false → IsSome tail.protection
+
+-- without the flag for unencrypted files each tail is protected
+abbrev pub UnencryptedNeedsFlag : Type 0
+UnencryptedNeedsFlag = (asks : Asks) (bytes : List ℕ) (tail : Tail) → tail_of asks bytes ≡ Ok tail → asks.allow_plain ≡ false → IsSome tail.protection

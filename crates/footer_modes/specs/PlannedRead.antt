@@ -1,5 +1,5 @@
 -- The laws that a tail that was written of a plan is read: the reader's answer is what the rules say of the plan's fields.
-use Rattle.std.specs.Prelude.{◌≡◌, ◌+◌, ℕ, false, List, ◌++◌, length, Some, Ok}
+use Rattle.std.specs.Prelude.{◌≡◌, ◌+◌, ℕ, false, List, [], ◌++◌, length, Some, Ok}
 use Rattle.pme_base.specs.Steps.{◌>>=◌}
 use Rattle.thrift_compact.specs.Proper.{IsSmall}
 use Rattle.thrift_compact.specs.Tree.{struct}
@@ -9,7 +9,7 @@ use Rattle.footer_rules.specs.FileRules.{file_of}
 use Rattle.parquet_writing.specs.Fitting.{FitsAlgorithm, FitsFooter}
 use Rattle.parquet_writing.specs.Plans.{file_crypto_meta_data, file_meta_data}
 use Rattle.parquet_meta.specs.ReadBack.{NumbersFit, plan_fields, written}
-use Rattle.footer_modes.specs.declared.mode.FooterMode.TheVariants.{Encrypted, Signed}
+use Rattle.footer_modes.specs.declared.mode.Magic.TheVariants.{Pare, Par1}
 use Rattle.footer_modes.specs.Ends.{footer_place}
 use Rattle.footer_modes.specs.TailOf.{Asks, tail_of}
 use Rattle.footer_modes.specs.Written.{encrypted_area, signed_area, encrypted_tail, signed_tail, is_too_large}
@@ -29,18 +29,18 @@ pub record IsPlan (plan : FooterPlan) : Type 0 where
 
 abbrev pub EncryptedPlanIsRead : Type 0
 EncryptedPlanIsRead =
-    (asks : Asks) (key file nonce metadata before : List ℕ) (algorithm : AlgorithmMeta) (plan : FooterPlan) → Begins Encrypted before → length nonce ≡ 12
+    (asks : Asks) (key file nonce metadata before : List ℕ) (algorithm : AlgorithmMeta) (plan : FooterPlan) → Begins Pare before → length nonce ≡ 12
     → FitsAlgorithm algorithm → IsSmall (length metadata) → IsPlan plan
     → is_too_large (footer_bytes plan) (encrypted_area key file nonce (crypto_bytes algorithm metadata) (footer_bytes plan)) ≡ false
     → CanOpen asks algorithm (Some metadata) key file
     → tail_of asks (before ++ encrypted_tail key file nonce (crypto_bytes algorithm metadata) (footer_bytes plan))
-    ≡ (file_of footer_place (plan_fields plan) >>= λ meta. Ok (tail_with Encrypted algorithm file key (length before) (length before + length (crypto_bytes algorithm metadata)) meta))
+    ≡ (file_of footer_place (plan_fields plan) >>= λ meta. Ok (tail_with Pare algorithm file key (crypto_bytes algorithm metadata) (footer_bytes plan) (length before) (length before + length (crypto_bytes algorithm metadata)) meta))
 
 abbrev pub SignedPlanIsRead : Type 0
 SignedPlanIsRead =
-    (asks : Asks) (key file nonce before : List ℕ) (algorithm : AlgorithmMeta) (plan : FooterPlan) → Begins Signed before → length nonce ≡ 12
+    (asks : Asks) (key file nonce before : List ℕ) (algorithm : AlgorithmMeta) (plan : FooterPlan) → Begins Par1 before → length nonce ≡ 12
     → IsPlan plan → plan.algorithm ≡ Some algorithm
     → is_too_large (footer_bytes plan) (signed_area key file nonce (footer_bytes plan)) ≡ false
     → CanOpen asks algorithm plan.signing_key_metadata key file
     → tail_of asks (before ++ signed_tail key file nonce (footer_bytes plan))
-    ≡ (file_of footer_place (plan_fields plan) >>= λ meta. Ok (tail_with Signed algorithm file key (length before) (length before + length (footer_bytes plan)) meta))
+    ≡ (file_of footer_place (plan_fields plan) >>= λ meta. Ok (tail_with Par1 algorithm file key [] (footer_bytes plan) (length before) (length before + length (footer_bytes plan)) meta))

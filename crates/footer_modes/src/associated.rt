@@ -1,5 +1,5 @@
-// The associated data of a file's modules: the prefix that the file stores or the reader supplies, and the file's own
-// bytes.
+// The associated data of the modules of a file: the prefix, which the file stores or the reader supplies, and the file's
+// unique bytes.
 ghost use Rattle.std.specs.Prelude.{◌≡◌, ◌++◌, ◌≤◌, true, false, length, Ok, Err, IfOk, IfErr, IfSome};
 ghost use Rattle.std.specs.Option.{option_copied};
 ghost use Rattle.pme_base.specs.declared.refusal.Detail.TheVariants.{Hexes};
@@ -18,8 +18,7 @@ const LONGEST_PREFIX: usize = 1_024;
 
 const LONGEST_UNIQUE: usize = 64;
 
-/// What the associated data of the file's modules begins with, by its algorithm and the prefix that the reader
-/// supplies.
+/// The start of the associated data of all modules of the file, by its algorithm and the prefix that the reader supplies.
 pub(crate) fn aad_of(
     alloc: Global,
     algorithm: &AlgorithmMeta,

@@ -5,32 +5,35 @@ ghost use Rattle.pme_base.specs.Outside.{bytes_of};
 ghost use Rattle.pme_base.specs.Refusals.{is_free};
 ghost use Rattle.pme_base.specs.Steps.{Answers, Quiet, ReadsFail};
 ghost use Rattle.pme_base.specs.declared.refusal.Cause.TheVariants.{Truncated};
-ghost use Rattle.footer_modes.specs.Causes.{is_ends_cause, is_reading_cause, IsShortEnd, IsShortRead};
+ghost use Rattle.footer_modes.specs.Causes.{is_ends_cause, is_short_cause, IsShortEnd, IsShortRead};
 ghost use Rattle.footer_modes.specs.Ends as defined;
 
-use crate::mode::FooterMode;
-use crate::reading::{read_exactly, read_trouble};
-use pme_base::{Cause, Detail, Files, OutOfMemory, Place, Refusal, plain_refusal, refusal_at};
+use crate::mode::Magic;
+use crate::reading::read_exactly;
+use pme_base::{
+    Cause, Detail, Files, OutOfMemory, Place, Refusal, buffer_of, file_size, plain_refusal,
+    refusal_at,
+};
 use std::alloc::Global;
 
-/// The shortest file: two magics, and between them the length of an empty area.
+/// The size of the shortest file: two magics and the length field of an empty area.
 const SHORTEST: u64 = 12;
 
-/// The longest footer area: a footer of 16,777,216 bytes, and what belongs to it.
+/// Size limit of the footer area: a footer of 16,777,216 bytes and 65,536 bytes beside it.
 const LONGEST_AREA: u64 = 16_842_752;
 
-/// What the ends of a file tell: the footer's mode, the offset of the footer area, and its length in bytes.
+/// The magic of a file, the offset of its footer area, and the length of the area in bytes.
 #[derive(Clone, Copy, Debug, PartialEq, Eq, Drop)]
 pub(crate) struct Ends {
-    pub mode: FooterMode,
+    pub magic: Magic,
     pub data_end: u64,
     pub area: usize,
 }
 
 /// Reads the ends of the file `name`.
 pub(crate) fn file_ends<F: Files>(files: &mut F, name: &str) -> Result<Ends, Refusal>
-    ensures answer { IfSome (F.published files.old) (λ told. Answers result (defined.file_ends (get told name.now))) }
-    ensures inside { IfOk result (λ ends. IfSome (F.published files.old) (λ told. defined.IsInside ends (bytes_of told name.now))) }
+    ensures answer { IfSome (F.published files.old) (λ published. Answers result (defined.file_ends (get published name.now))) }
+    ensures inside { IfOk result (λ ends. IfSome (F.published files.old) (λ published. defined.IsInside ends (bytes_of published name.now))) }
     ensures small { IfOk result (λ ends. ends.area ≤ 16842752) }
     ensures offset { IfOk result (λ ends. ends.data_end + ends.area + 8 < 2 ^ 64) }
     ensures short { IfErr result (λ refusal. refusal.cause ≡ Truncated → IsShortEnd refusal) }
@@ -40,16 +43,15 @@ pub(crate) fn file_ends<F: Files>(files: &mut F, name: &str) -> Result<Ends, Ref
     ensures reads { ReadsFail (F.faults files.old) (F.faults files.new) result }
     ensures causes { IfErr result (λ refusal. is_ends_cause refusal.cause ≡ true) }
 {
-    match files.size(name) {
-        Ok(Some(size)) => ends_at(files, name, size),
-        Ok(None) => Err(plain_refusal(Cause::NoFile)),
-        Err(trouble) => Err(read_trouble(trouble)),
+    match file_size(files, name) {
+        Ok(size) => ends_at(files, name, size),
+        Err(refusal) => Err(refusal),
     }
 }
 
-/// The same of a file that is there, with its size in bytes.
+/// Reads the ends of an existing file of `size` bytes.
 fn ends_at<F: Files>(files: &mut F, name: &str, size: u64) -> Result<Ends, Refusal>
-    ensures answer { IfSome (F.published files.old) (λ told. size ≡ length (bytes_of told name.now) → Answers result (defined.ends_of (bytes_of told name.now))) }
+    ensures answer { IfSome (F.published files.old) (λ published. size ≡ length (bytes_of published name.now) → Answers result (defined.ends_of (bytes_of published name.now))) }
     ensures inside { IfOk result (λ ends. ends.data_end + ends.area + 8 ≡ size) }
     ensures small { IfOk result (λ ends. ends.area ≤ 16842752) }
     ensures short { IfErr result (λ refusal. refusal.cause ≡ Truncated → IsShortEnd refusal) }
@@ -70,7 +72,7 @@ fn ends_at<F: Files>(files: &mut F, name: &str, size: u64) -> Result<Ends, Refus
     ends_within(size, &front, &back)
 }
 
-/// The ends by the first four bytes of a file and its last eight.
+/// The ends of a file of `size` bytes, by its first four bytes and its last eight.
 fn ends_within(size: u64, front: &[u8; 4], back: &[u8; 8]) -> Result<Ends, Refusal>
     requires { 12 ≤ size }
     ensures answer { result ≡ defined.ends_within size front.now back.now }
@@ -80,38 +82,38 @@ fn ends_within(size: u64, front: &[u8; 4], back: &[u8; 8]) -> Result<Ends, Refus
     ensures quiet { Quiet result }
     ensures causes { IfErr result (λ refusal. is_ends_cause refusal.cause ≡ true) }
 {
-    let mode = mode_of(size - 4, &back[4..])?;
-    begins(mode, front)?;
+    let magic = known_magic(size - 4, &back[4..])?;
+    check_first_magic(magic, front)?;
     let [b0, b1, b2, b3, _, _, _, _] = *back;
-    area_at(size, mode, u32::from_le_bytes([b0, b1, b2, b3]))
+    area_at(size, magic, u32::from_le_bytes([b0, b1, b2, b3]))
 }
 
-/// The mode by the last magic, which stands at this offset.
-fn mode_of(at: u64, magic: &[u8]) -> Result<FooterMode, Refusal>
-    ensures answer { result ≡ defined.mode_of at magic.now }
+/// Finds the magic by the last four bytes of a file, which stand at the offset `at`.
+fn known_magic(at: u64, bytes: &[u8]) -> Result<Magic, Refusal>
+    ensures answer { result ≡ defined.known_magic at bytes.now }
     ensures whole { IfErr result (λ refusal. refusal.cause ≡ Truncated → ⊥) }
     ensures quiet { Quiet result }
     ensures causes { IfErr result (λ refusal. is_ends_cause refusal.cause ≡ true) }
 {
-    if magic == b"PARE".as_slice() {
-        return Ok(FooterMode::Encrypted);
+    if bytes == b"PARE".as_slice() {
+        return Ok(Magic::Pare);
     }
-    if magic == b"PAR1".as_slice() {
-        return Ok(FooterMode::Signed);
+    if bytes == b"PAR1".as_slice() {
+        return Ok(Magic::Par1);
     }
     Err(bad_magic(at))
 }
 
-/// Checks that the file begins with the mode's magic.
-fn begins(mode: FooterMode, front: &[u8]) -> Result<(), Refusal>
-    ensures answer { result ≡ defined.begins mode front.now }
+/// Checks that a file begins with the magic that it ends with.
+fn check_first_magic(magic: Magic, front: &[u8]) -> Result<(), Refusal>
+    ensures answer { result ≡ defined.begins magic front.now }
     ensures whole { IfErr result (λ refusal. refusal.cause ≡ Truncated → ⊥) }
     ensures quiet { Quiet result }
     ensures causes { IfErr result (λ refusal. is_ends_cause refusal.cause ≡ true) }
 {
-    let same = match mode {
-        FooterMode::Encrypted => front == b"PARE".as_slice(),
-        FooterMode::Signed => front == b"PAR1".as_slice(),
+    let same = match magic {
+        Magic::Pare => front == b"PARE".as_slice(),
+        Magic::Par1 => front == b"PAR1".as_slice(),
     };
     if same { Ok(()) } else { Err(bad_magic(0)) }
 }
@@ -122,10 +124,10 @@ fn bad_magic(at: u64) -> Refusal
     refusal_at(Cause::BadMagic, Place::file(), at, Detail::Nothing)
 }
 
-/// The area of this length, which ends right before the length field, in a file of this size.
-fn area_at(size: u64, mode: FooterMode, count: u32) -> Result<Ends, Refusal>
+/// Places the footer area of `count` bytes right before the length field of a file of `size` bytes.
+fn area_at(size: u64, magic: Magic, count: u32) -> Result<Ends, Refusal>
     requires { 12 ≤ size }
-    ensures answer { result ≡ defined.area_at size mode count }
+    ensures answer { result ≡ defined.area_at size magic count }
     ensures inside { IfOk result (λ ends. ends.data_end + ends.area + 8 ≡ size) }
     ensures small { IfOk result (λ ends. ends.area ≤ 16842752) }
     ensures whole { IfErr result (λ refusal. refusal.cause ≡ Truncated → ⊥) }
@@ -142,13 +144,13 @@ fn area_at(size: u64, mode: FooterMode, count: u32) -> Result<Ends, Refusal>
         return Err(refusal_at(Cause::TooLarge, Place::footer(), size - 8, detail));
     }
     Ok(Ends {
-        mode,
+        magic,
         data_end: size - 8 - area,
         area: area as usize,
     })
 }
 
-/// Reads the footer area. Where the file gives fewer bytes of it than its size told, that is Truncated at the footer.
+/// Reads the footer area. A file that gives fewer bytes of it than its size promised is Truncated at the footer.
 pub(crate) fn area_of<F: Files>(
     alloc: Global,
     files: &mut F,
@@ -156,15 +158,15 @@ pub(crate) fn area_of<F: Files>(
     ends: &Ends,
 ) -> Result<Vec<u8>, Refusal>
     requires small { ends.now.area ≤ 16842752 }
-    ensures told { IfOk result (λ area. IfSome (F.published files.old) (λ told. defined.IsInside ends.now (bytes_of told name.now) → area.items ≡ defined.area_of ends.now (bytes_of told name.now))) }
+    ensures answered { IfOk result (λ area. IfSome (F.published files.old) (λ published. defined.IsInside ends.now (bytes_of published name.now) → area.items ≡ defined.area_of ends.now (bytes_of published name.now))) }
     ensures size { IfOk result (λ area. vec_len area ≡ ends.now.area) }
     ensures short { IfErr result (λ refusal. refusal.cause ≡ Truncated → IsShortRead defined.footer_place ends.now.data_end ends.now.area refusal) }
-    ensures free { IfErr result (λ refusal. IfSome (F.published files.old) (λ told. defined.IsInside ends.now (bytes_of told name.now) → is_free refusal.cause ≡ true)) }
+    ensures free { IfErr result (λ refusal. IfSome (F.published files.old) (λ published. defined.IsInside ends.now (bytes_of published name.now) → is_free refusal.cause ≡ true)) }
     ensures published { F.published files.new ≡ F.published files.old }
     ensures pending { OnOk result (F.pending files.new ≡ F.pending files.old) }
     ensures given { F.given files.new ≤ F.given files.old + ends.now.area }
     ensures reads { ReadsFail (F.faults files.old) (F.faults files.new) result }
-    ensures causes { IfErr result (λ refusal. is_reading_cause refusal.cause ≡ true) }
+    ensures causes { IfErr result (λ refusal. is_short_cause refusal.cause ≡ true) }
 {
     let mut area = match buffer_of(alloc, ends.area) {
         Ok(area) => area,
@@ -175,13 +177,4 @@ pub(crate) fn area_of<F: Files>(
         Ok(()) => Ok(area),
         Err(refusal) => Err(refusal),
     }
-}
-
-/// A buffer of `size` bytes.
-fn buffer_of(alloc: Global, size: usize) -> Result<Vec<u8>, OutOfMemory>
-    ensures { IfOk result (λ buffer. vec_len buffer ≡ size) }
-{
-    let mut buffer = Vec::new(alloc);
-    buffer.resize(size, 0)?;
-    Ok(buffer)
 }

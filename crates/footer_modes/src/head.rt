@@ -1,27 +1,37 @@
-// What stands in the footer area before the footer's module, or before its signature.
-ghost use Rattle.std.specs.Prelude.{◌≡◌, ◌+◌, ◌<◌, ◌≤◌, ◌^◌, true, length, IfOk, IfErr};
+// The front of the footer area: how the footer is encrypted or signed, or that it is unencrypted.
+ghost use Rattle.std.specs.Prelude.{◌≡◌, ◌+◌, ◌<◌, ◌^◌, true, false, length, IfOk, IfErr};
 ghost use Rattle.pme_base.specs.Refusals.{refusal_at};
 ghost use Rattle.pme_base.specs.Steps.{Answers, Quiet};
 ghost use Rattle.footer_modes.specs.Causes.{is_head_cause};
 ghost use Rattle.footer_modes.specs.Ends.{footer_place};
 ghost use Rattle.footer_modes.specs.TailOf as defined;
-ghost use Rattle.footer_modes.specs.declared.mode.FooterMode.TheVariants as mode_is;
+ghost use Rattle.footer_modes.specs.declared.mode.Magic.TheVariants as magic_is;
 
-use crate::mode::FooterMode;
+use crate::mode::Magic;
 use parquet_meta::{AlgorithmMeta, FileCrypto, read_file_crypto, read_signing};
 use pme_base::{Bytes, Cause, Detail, Place, Refusal, refusal_at};
 use std::alloc::Global;
 
-/// The nonce and the tag of a signature.
+/// The bytes of a nonce and a tag.
 const SIGNATURE: usize = 28;
 
-/// How a footer is sealed or signed: the algorithm, the metadata of the footer's key, and how many bytes of the area
-/// come before the module, or before the signature.
+/// How a footer is encrypted or signed.
 #[derive(Debug, Drop)]
 pub(crate) struct Head {
     pub algorithm: AlgorithmMeta,
+    /// The metadata of the footer key.
     pub metadata: Option<Bytes>,
+    /// The number of bytes in the footer area before the module, or before the signature.
     pub size: usize,
+}
+
+/// What stands at the front of a footer area.
+#[derive(Debug, Drop)]
+pub(crate) enum AreaHead {
+    /// An encrypted or signed footer.
+    Protected(Head),
+    /// An unencrypted footer of this number of bytes.
+    Bare(usize),
 }
 
 /// A refusal of the footer as a whole.
@@ -31,30 +41,31 @@ pub(crate) fn refused(cause: Cause, detail: Detail) -> Refusal
     refusal_at(cause, Place::footer(), 0, detail)
 }
 
-/// Reads the front of a footer area, which stands at the offset `data_end` of its file.
+/// Reads the front of a footer area, which stands at the offset `data_end` of its file. A footer in plain that names no
+/// algorithm is NotEncrypted, unless `allow_plain` is set.
 pub(crate) fn head_of(
     alloc: Global,
-    mode: FooterMode,
+    allow_plain: bool,
+    magic: Magic,
     data_end: u64,
     area: &[u8],
-) -> Result<Head, Refusal>
+) -> Result<AreaHead, Refusal>
     requires { data_end + length area.now < 2 ^ 64 }
-    ensures answer { Answers result (defined.head_of mode data_end area.now) }
-    ensures within { IfOk result (λ head. head.size ≤ length area.now) }
-    ensures signed { IfOk result (λ head. mode ≡ mode_is.Signed → head.size + 28 ≡ length area.now) }
+    ensures answer { Answers result (defined.head_of allow_plain magic data_end area.now) }
+    ensures within { IfOk result (defined.HeadFits magic (length area.now)) }
     ensures quiet { Quiet result }
     ensures causes { IfErr result (λ refusal. is_head_cause refusal.cause ≡ true) }
 {
-    match mode {
-        FooterMode::Encrypted => sealed_head(alloc, area),
-        FooterMode::Signed => signed_head(alloc, data_end, area),
+    match magic {
+        Magic::Pare => sealed_head(alloc, area),
+        Magic::Par1 => plain_head(alloc, allow_plain, data_end, area),
     }
 }
 
-/// Of an encrypted footer: FileCryptoMetaData, which the module follows.
-fn sealed_head(alloc: Global, area: &[u8]) -> Result<Head, Refusal>
-    ensures answer { Answers result (defined.head_of mode_is.Encrypted 0 area.now) }
-    ensures within { IfOk result (λ head. head.size ≤ length area.now) }
+/// Parses the FileCryptoMetaData in front of an encrypted footer.
+fn sealed_head(alloc: Global, area: &[u8]) -> Result<AreaHead, Refusal>
+    ensures answer { Answers result (defined.head_of false magic_is.Pare 0 area.now) }
+    ensures within { IfOk result (defined.HeadFits magic_is.Pare (length area.now)) }
     ensures quiet { Quiet result }
     ensures causes { IfErr result (λ refusal. is_head_cause refusal.cause ≡ true) }
 {
@@ -63,23 +74,31 @@ fn sealed_head(alloc: Global, area: &[u8]) -> Result<Head, Refusal>
         algorithm,
         key_metadata,
     } = crypto;
-    Ok(Head {
+    Ok(AreaHead::Protected(Head {
         algorithm,
         metadata: key_metadata,
         size,
-    })
+    }))
 }
 
-/// Of a signed footer: the footer itself, which a nonce and a tag follow to the area's end.
-fn signed_head(alloc: Global, data_end: u64, area: &[u8]) -> Result<Head, Refusal>
+/// Parses a footer in plain, which a nonce and a tag follow to the end of the area if it is signed.
+fn plain_head(
+    alloc: Global,
+    allow_plain: bool,
+    data_end: u64,
+    area: &[u8],
+) -> Result<AreaHead, Refusal>
     requires { data_end + length area.now < 2 ^ 64 }
-    ensures answer { Answers result (defined.head_of mode_is.Signed data_end area.now) }
-    ensures signed { IfOk result (λ head. head.size + 28 ≡ length area.now) }
+    ensures answer { Answers result (defined.head_of allow_plain magic_is.Par1 data_end area.now) }
+    ensures within { IfOk result (defined.HeadFits magic_is.Par1 (length area.now)) }
     ensures quiet { Quiet result }
     ensures causes { IfErr result (λ refusal. is_head_cause refusal.cause ≡ true) }
 {
     let (algorithm, metadata, size) = read_signing(alloc, area)?;
     let Some(algorithm) = algorithm else {
+        if allow_plain {
+            return Ok(AreaHead::Bare(size));
+        }
         return Err(refused(Cause::NotEncrypted, Detail::Nothing));
     };
     let whole = size + SIGNATURE;
@@ -88,9 +107,9 @@ fn signed_head(alloc: Global, data_end: u64, area: &[u8]) -> Result<Head, Refusa
         let detail = Detail::Pair(area.len() as u64, whole as u64);
         return Err(refusal_at(Cause::BadFooterLength, Place::footer(), at, detail));
     }
-    Ok(Head {
+    Ok(AreaHead::Protected(Head {
         algorithm,
         metadata,
         size,
-    })
+    }))
 }

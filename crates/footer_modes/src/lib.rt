@@ -1,6 +1,5 @@
-// The end of an encrypted Parquet file ("Parquet Modular Encryption", "Encrypted footer mode" and "Plaintext footer
-// mode"): which mode its footer has, how it is sealed or signed, under which associated data and by which key, and
-// what it says once its tag was checked. Both ends are written too, and what was written is read.
+//! Reading and writing the end of a Parquet file ("Parquet Modular Encryption", "Encrypted footer mode" and "Plaintext
+//! footer mode"): the footer, and how it is encrypted or signed.
 #![tactic(auto)]
 
 mod associated;
@@ -18,6 +17,6 @@ mod writing;
 pub use laws::{footer_parts_fix_footers, tails_are_laid_out};
 pub use mode::FooterMode;
 pub use reader::{footer_key_metadata, read_tail};
-pub use tail::{ReadOptions, Tail};
+pub use tail::{Protection, ReadOptions, Tail};
 pub use tail_laws::{footer_areas, planned_tails_are_read, written_tails_are_read};
 pub use writing::{write_encrypted_tail, write_signed_tail};

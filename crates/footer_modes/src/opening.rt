@@ -1,4 +1,4 @@
-// The bytes of a footer, which its module's tag or its signature vouches for.
+// The bytes of an encrypted or signed footer, after its tag was checked.
 ghost use Rattle.std.specs.Prelude.{◌≡◌, ◌+◌, ◌≤◌, true, false, length, take, drop, Ok, Err, IfOk, IfErr};
 ghost use Rattle.crypto_module.specs.Frames.{is_module_cause};
 ghost use Rattle.crypto_module.specs.Opening.{opened};
@@ -9,10 +9,10 @@ ghost use Rattle.gcm_seal.specs.Gcm.{gctr, tag_of};
 ghost use Rattle.footer_modes.specs.Causes.{is_footer_key_cause, FinderFails};
 ghost use Rattle.footer_modes.specs.Ends.{footer_place};
 ghost use Rattle.footer_modes.specs.TailOf as defined;
-ghost use Rattle.footer_modes.specs.declared.mode.FooterMode.TheVariants as mode_is;
+ghost use Rattle.footer_modes.specs.declared.mode.Magic.TheVariants as magic_is;
 
 use crate::head::refused;
-use crate::mode::FooterMode;
+use crate::mode::Magic;
 use aes_block::AesKey;
 use crypto_module::read_gcm;
 use gcm_seal::sign;
@@ -21,7 +21,7 @@ use module_aad::FileAad;
 use pme_base::{Bytes, Cause, Detail, Place, Refusal, plain_refusal, refusal_at};
 use std::alloc::Global;
 
-/// The longest footer in bytes.
+/// Size limit of the footer in bytes.
 const LONGEST_FOOTER: u32 = 16_777_216;
 
 /// Asks for the footer's key by its metadata.
@@ -48,10 +48,10 @@ pub(crate) fn footer_key<K: KeyFinder>(
     }
 }
 
-/// The bytes of the footer, opened in place or checked, and lent. The first `size` bytes of the area come before the
-/// module or the signature's nonce, which stands at the offset `at` of the file.
+/// Decrypts an encrypted footer in place, or checks a signed one, and lends its bytes. The first `size` bytes of the area
+/// come before the module or the nonce of the signature, which stands at the offset `at` of the file.
 pub(crate) fn plain_of<'a>(
-    mode: FooterMode,
+    magic: Magic,
     key: &AesKey,
     file: &FileAad,
     at: u64,
@@ -59,19 +59,19 @@ pub(crate) fn plain_of<'a>(
     area: &'a mut [u8],
 ) -> Result<&'a [u8], Refusal>
     requires within { size ≤ length area.old }
-    requires signed { mode ≡ mode_is.Signed → size + 28 ≡ length area.old }
+    requires signed { magic ≡ magic_is.Par1 → size + 28 ≡ length area.old }
     requires short { length area.old ≤ 16842752 }
-    ensures ok { IfOk result (λ plain. defined.plain_of mode key.now file.now at size area.old ≡ Ok plain.now) }
-    ensures err { IfErr result (λ refusal. defined.plain_of mode key.now file.now at size area.old ≡ Err refusal) }
+    ensures ok { IfOk result (λ plain. defined.plain_of magic key.now file.now at size area.old ≡ Ok plain.now) }
+    ensures err { IfErr result (λ refusal. defined.plain_of magic key.now file.now at size area.old ≡ Err refusal) }
     ensures place { IfErr result (λ refusal. refusal.place ≡ footer_place) }
     ensures quiet { Quiet result }
     ensures causes { IfErr result (λ refusal. is_module_cause refusal.cause ≡ true) }
 {
     let mut aad = [0; 1095];
     let length = file.write_aad(&Place::footer(), &mut aad);
-    match mode {
-        FooterMode::Encrypted => sealed_plain(key, &aad[..length], at, &mut area[size..]),
-        FooterMode::Signed => signed_plain(key, &aad[..length], at, size, area),
+    match magic {
+        Magic::Pare => sealed_plain(key, &aad[..length], at, &mut area[size..]),
+        Magic::Par1 => signed_plain(key, &aad[..length], at, size, area),
     }
 }
 
@@ -95,7 +95,7 @@ fn sealed_plain<'a>(
     }
 }
 
-/// Checks the tag at the end of these bytes, which is that of sealing the first `size` of them under the nonce that
+/// Checks the tag at the end of the area against the tag that sealing the first `size` bytes gives, under the nonce that
 /// follows them.
 fn signed_plain<'a>(
     key: &AesKey,

@@ -1,5 +1,5 @@
 // What is read of a tail that was written.
-ghost use Rattle.footer_modes.specs.WrittenRead.{EncryptedTailIsRead, SignedTailIsRead, EncryptedMetadataAreRead, SignedMetadataAreRead, EncryptedAreaLength, SignedAreaLength};
+ghost use Rattle.footer_modes.specs.WrittenRead.{EncryptedTailIsRead, SignedTailIsRead, UnencryptedTailIsRead, EncryptedMetadataAreRead, SignedMetadataAreRead, EncryptedAreaLength, SignedAreaLength};
 ghost use Rattle.footer_modes.specs.PlannedRead.{EncryptedPlanIsRead, SignedPlanIsRead};
 
 /// The laws that a tail behind a file's data is read to what it was written of: where the bytes before the module, or the
@@ -8,6 +8,7 @@ ghost use Rattle.footer_modes.specs.PlannedRead.{EncryptedPlanIsRead, SignedPlan
 pub fn written_tails_are_read()
     ensures encrypted { EncryptedTailIsRead }
     ensures signed { SignedTailIsRead }
+    ensures unencrypted { UnencryptedTailIsRead }
     ensures encrypted_metadata { EncryptedMetadataAreRead }
     ensures signed_metadata { SignedMetadataAreRead }
 {}

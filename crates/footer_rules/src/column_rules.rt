@@ -7,7 +7,7 @@ ghost use Rattle.footer_rules.specs.FileRules as rules;
 
 use crate::value_rules::{bad_value, not_more, same_number};
 use parquet_types::{ColumnKind, ColumnSpec, FlatSchema, SchemaElement};
-use pme_base::{Cause, NameSet, Place, Refusal, Rest, Rows, StructName, plain_refusal};
+use pme_base::{Cause, NameSet, Place, Refusal, Sequence, SequenceIter, StructName, plain_refusal};
 use std::alloc::Global;
 
 fn bad_element(place: Place, cause: Cause, field: i16) -> Refusal
@@ -139,14 +139,14 @@ fn column_of(
 fn columns_of(
     alloc: Global,
     place: Place,
-    elements: Rest<SchemaElement>,
+    elements: SequenceIter<SchemaElement>,
 ) -> Result<FlatSchema, Refusal>
     ensures answer { Answers result (rules.columns_of place set.empty elements) }
     ensures quiet { Quiet result }
     ensures causes { rules.is_rule_result result ≡ true }
 {
     let mut earlier = NameSet::new(alloc);
-    let mut columns = Rows::new(alloc);
+    let mut columns = Sequence::new(alloc);
     let mut rest = elements;
     while let Some(element) = rest.next() {
         let column = column_of(place, &mut earlier, element)?;
@@ -162,14 +162,14 @@ fn columns_of(
 pub fn schema_of(
     alloc: Global,
     place: Place,
-    schema: Rows<SchemaElement>,
+    schema: Sequence<SchemaElement>,
 ) -> Result<FlatSchema, Refusal>
     ensures answer { Answers result (rules.schema_of place schema) }
     ensures quiet { Quiet result }
     ensures causes { rules.is_rule_result result ≡ true }
 {
     let count = schema.as_slice().len();
-    let mut elements = schema.into_rest();
+    let mut elements = schema.into_items();
     let root = match elements.next() {
         Some(root) => root,
         None => return Err(bad_element(place, Cause::MissingField, 4)),

@@ -27,7 +27,7 @@ pub fn file_of(alloc: Global, place: Place, fields: FileFields) -> Result<FileMe
     let columns = schema_of(alloc, place, schema)?;
     not_negative(place, StructName::FileMetaData, 3, num_rows)?;
     not_more(place, groups.as_slice().len())?;
-    let groups = groups_of(alloc, place, columns.as_slice(), groups.into_rest())?;
+    let groups = groups_of(alloc, place, columns.as_slice(), groups.into_items())?;
     same_rows(place, all_rows(groups.as_slice()), num_rows)?;
     Ok(FileMeta {
         schema: columns,

@@ -9,8 +9,8 @@ use parquet_types::{
     RowGroupMeta,
 };
 use pme_base::{
-    Bytes, Cause, Detail, OutOfMemory, Place, Refusal, Rest, Rows, StructName, plain_refusal,
-    refusal_at,
+    Bytes, Cause, Detail, OutOfMemory, Place, Refusal, Sequence, SequenceIter, StructName,
+    plain_refusal, refusal_at,
 };
 use std::alloc::Global;
 
@@ -123,13 +123,13 @@ fn chunks_of(
     alloc: Global,
     place: Place,
     columns: &[ColumnSpec],
-    chunks: Rest<ColumnChunk>,
+    chunks: SequenceIter<ColumnChunk>,
 ) -> Result<ChunkList, Refusal>
     ensures answer { Answers result (rules.chunks_of place columns.now chunks) }
     ensures quiet { Quiet result }
     ensures causes { rules.is_rule_result result ≡ true }
 {
-    let mut list = Rows::new(alloc);
+    let mut list = Sequence::new(alloc);
     let mut rest = chunks;
     let mut columns = columns;
     while let [column, after @ ..] = columns {
@@ -181,7 +181,7 @@ fn group_of(
     same_number(place, count as i64, columns.len() as i64)?;
     not_negative(place, StructName::RowGroup, 3, num_rows)?;
     in_position(place, position, ordinal)?;
-    let chunks = chunks_of(alloc, place, columns, chunks.into_rest())?;
+    let chunks = chunks_of(alloc, place, columns, chunks.into_items())?;
     Ok(RowGroupMeta {
         chunks,
         num_rows,
@@ -194,7 +194,7 @@ pub fn groups_of(
     alloc: Global,
     place: Place,
     columns: &[ColumnSpec],
-    groups: Rest<RowGroup>,
+    groups: SequenceIter<RowGroup>,
 ) -> Result<GroupList, Refusal>
     requires { length groups ≤ 32768 }
     ensures answer { Answers result (rules.groups_of place columns.now 0 groups) }
@@ -202,7 +202,7 @@ pub fn groups_of(
     ensures quiet { Quiet result }
     ensures causes { rules.is_rule_result result ≡ true }
 {
-    let mut list = Rows::new(alloc);
+    let mut list = Sequence::new(alloc);
     let mut rest = groups;
     let mut position = 0;
     while let Some(group) = rest.next() {

@@ -10,7 +10,7 @@ use crate::finder::{KeyAnswer, KeyFinder, KeyTrouble};
 use crate::id_key::IdKey;
 use aes_block::AesKey;
 use json_text::{Map, Value, bytes_of_hex, read_json};
-use pme_base::{Bytes, OutOfMemory, Rows};
+use pme_base::{Bytes, OutOfMemory, Sequence};
 use std::alloc::Global;
 use std::marker::Model;
 use thiserror::Error;
@@ -39,7 +39,7 @@ impl From<OutOfMemory> for KeysRefusal {
 /// The keys of a keys file. Contracts see them as the list of ids and keys, in the order of their ids' bytes.
 #[derive(Drop)]
 pub struct IdKeys {
-    keys: Rows<IdKey>,
+    keys: Sequence<IdKey>,
 }
 
 impl Model for IdKeys {
@@ -78,11 +78,14 @@ impl IdKeys {
     }
 }
 
-fn keys_of_members(alloc: Global, members: &Map<String, Value>) -> Result<Rows<IdKey>, KeysRefusal>
+fn keys_of_members(
+    alloc: Global,
+    members: &Map<String, Value>,
+) -> Result<Sequence<IdKey>, KeysRefusal>
     ensures ok { IfOk result (λ keys. each_member file.key_of_member (members_view members.now.entries) ≡ Ok keys) }
     ensures err { IfErr result (λ refusal. file.IsRefusalOf (each_member file.key_of_member (members_view members.now.entries)) refusal) }
 {
-    let mut keys = Rows::new(alloc);
+    let mut keys = Sequence::new(alloc);
     for (id, value) in members.iter() {
         let Some(key) = key_of_member(alloc, id.as_bytes(), value)? else {
             return Err(bad_id(alloc, id.as_bytes()));

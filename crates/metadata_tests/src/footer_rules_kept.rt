@@ -3,7 +3,7 @@ use parquet_types::{
     ChunkCrypto, ColumnChunk, ColumnCrypto, ColumnKind, ColumnSpec, FileFields, FileMeta, PathList,
     RowGroup, SchemaElement,
 };
-use pme_base::{Bytes, OutOfMemory, Place, Refusal, Rows};
+use pme_base::{Bytes, OutOfMemory, Place, Refusal, Sequence};
 use std::alloc::Global;
 use std::process::Abort;
 use std::test::Fail;
@@ -135,8 +135,8 @@ fn element(alloc: Global, position: usize, changes: &str) -> Result<SchemaElemen
     }
 }
 
-fn schema(alloc: Global, changes: &str) -> Result<Rows<SchemaElement>, OutOfMemory> {
-    let mut schema = Rows::new(alloc);
+fn schema(alloc: Global, changes: &str) -> Result<Sequence<SchemaElement>, OutOfMemory> {
+    let mut schema = Sequence::new(alloc);
     let count = if value_of(changes, "root") == Some("none") {
         0
     } else {
@@ -149,7 +149,7 @@ fn schema(alloc: Global, changes: &str) -> Result<Rows<SchemaElement>, OutOfMemo
 }
 
 fn path_of(alloc: Global, text: &str) -> Result<PathList, OutOfMemory> {
-    let mut path = Rows::new(alloc);
+    let mut path = Sequence::new(alloc);
     for part in text.split('.') {
         path.push(bytes_of(alloc, part)?)?;
     }
@@ -195,7 +195,7 @@ fn chunk(alloc: Global, position: i64, changes: &str) -> Result<ColumnChunk, Out
 }
 
 fn group(alloc: Global, changes: &str) -> Result<RowGroup, OutOfMemory> {
-    let mut chunks = Rows::new(alloc);
+    let mut chunks = Sequence::new(alloc);
     for position in 0..number_of(changes, "chunks", Some(3)).unwrap_or(0) {
         chunks.push(chunk(alloc, position, changes)?)?;
     }
@@ -206,8 +206,8 @@ fn group(alloc: Global, changes: &str) -> Result<RowGroup, OutOfMemory> {
     })
 }
 
-fn groups(alloc: Global, changes: &str) -> Result<Rows<RowGroup>, OutOfMemory> {
-    let mut groups = Rows::new(alloc);
+fn groups(alloc: Global, changes: &str) -> Result<Sequence<RowGroup>, OutOfMemory> {
+    let mut groups = Sequence::new(alloc);
     for changes in [changes, "first=2 ordinal=1 path=-"] {
         groups.push(group(alloc, changes)?)?;
     }
@@ -259,11 +259,11 @@ fn numbered(alloc: Global, number: u16) -> Result<SchemaElement, OutOfMemory> {
     }
 }
 
-fn empty_groups(alloc: Global, count: u16) -> Result<Rows<RowGroup>, OutOfMemory> {
-    let mut groups = Rows::new(alloc);
+fn empty_groups(alloc: Global, count: u16) -> Result<Sequence<RowGroup>, OutOfMemory> {
+    let mut groups = Sequence::new(alloc);
     for number in 0..count {
         groups.push(RowGroup {
-            chunks: Rows::new(alloc),
+            chunks: Sequence::new(alloc),
             num_rows: 0,
             ordinal: i16::try_from(number).ok(),
         })?;
@@ -271,8 +271,8 @@ fn empty_groups(alloc: Global, count: u16) -> Result<Rows<RowGroup>, OutOfMemory
     Ok(groups)
 }
 
-fn numbered_columns(alloc: Global, count: u16) -> Result<Rows<SchemaElement>, OutOfMemory> {
-    let mut schema = Rows::new(alloc);
+fn numbered_columns(alloc: Global, count: u16) -> Result<Sequence<SchemaElement>, OutOfMemory> {
+    let mut schema = Sequence::new(alloc);
     schema.push(root(alloc, Some(count as i32))?)?;
     for number in 0..count {
         schema.push(numbered(alloc, number)?)?;

@@ -16,7 +16,7 @@ use crate::values::{binary_field, int16_field, int32_field, int64_field};
 use parquet_types::{
     AlgorithmMeta, ColumnChunk, FieldRefusal, FileFields, RowGroup, SchemaElement,
 };
-use pme_base::{Bytes, Place, Refusal, Rows, StructName};
+use pme_base::{Bytes, Place, Refusal, Sequence, StructName};
 use std::alloc::Global;
 use thrift_compact::{FieldHead, Reader, TKind, ThriftRefusal};
 
@@ -110,7 +110,7 @@ impl Item for SchemaElement {
 /// The fields of RowGroup.
 #[derive(Drop)]
 pub(crate) struct RowGroupMet {
-    chunks: Met<Rows<ColumnChunk>>,
+    chunks: Met<Sequence<ColumnChunk>>,
     num_rows: Met<i64>,
     ordinal: Met<i16>,
 }
@@ -182,9 +182,9 @@ impl Item for RowGroup {
 /// The fields of FileMetaData.
 #[derive(Drop)]
 pub(crate) struct FileMet {
-    schema: Met<Rows<SchemaElement>>,
+    schema: Met<Sequence<SchemaElement>>,
     num_rows: Met<i64>,
-    groups: Met<Rows<RowGroup>>,
+    groups: Met<Sequence<RowGroup>>,
     algorithm: Met<AlgorithmMeta>,
     signing_key_metadata: Met<Bytes>,
 }

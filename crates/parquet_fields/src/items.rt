@@ -10,7 +10,7 @@ ghost use Rattle.thrift_compact.specs.Tree.{Tree};
 
 use crate::met::Met;
 use crate::values::binary_field;
-use pme_base::{Bytes, Rows};
+use pme_base::{Bytes, Sequence};
 use std::alloc::Global;
 use thrift_compact::{Reader, TKind, ThriftRefusal};
 
@@ -50,7 +50,7 @@ pub(crate) fn list_field<I: Item>(
     alloc: Global,
     reader: &mut Reader<'_>,
     kind: TKind,
-) -> Result<Met<Rows<I>>, ThriftRefusal>
+) -> Result<Met<Sequence<I>>, ThriftRefusal>
     ensures value { MeetsField (list_of I.item) kind reader.old reader.new result }
     ensures shorter { OnOk result (length reader.new.rest ≤ length reader.old.rest) }
 {
@@ -68,14 +68,17 @@ pub(crate) fn names_field(
     alloc: Global,
     reader: &mut Reader<'_>,
     kind: TKind,
-) -> Result<Met<Rows<Bytes>>, ThriftRefusal>
+) -> Result<Met<Sequence<Bytes>>, ThriftRefusal>
     ensures value { MeetsField (list_of binary_of) kind reader.old reader.new result }
     ensures shorter { OnOk result (length reader.new.rest ≤ length reader.old.rest) }
 {
     list_field::<Bytes>(alloc, reader, kind)
 }
 
-fn read_list<I: Item>(alloc: Global, reader: &mut Reader<'_>) -> Result<Met<Rows<I>>, ThriftRefusal>
+fn read_list<I: Item>(
+    alloc: Global,
+    reader: &mut Reader<'_>,
+) -> Result<Met<Sequence<I>>, ThriftRefusal>
     ensures value { MeetsField (list_of I.item) TKind.List reader.old reader.new result }
     ensures shorter { OnOk result (length reader.new.rest ≤ length reader.old.rest) }
 {
@@ -91,11 +94,11 @@ fn read_items<I: Item>(
     reader: &mut Reader<'_>,
     kind: TKind,
     count: u32,
-) -> Result<Met<Rows<I>>, ThriftRefusal>
+) -> Result<Met<Sequence<I>>, ThriftRefusal>
     ensures value { GivesAt (λ met. met) reader.old reader.new result (mapped (items_of I.item) (elements (element (value_at (room reader.old)) kind) count reader.old.rest)) }
     ensures shorter { OnOk result (length reader.new.rest ≤ length reader.old.rest) }
 {
-    let mut items = Rows::new(alloc);
+    let mut items = Sequence::new(alloc);
     for turn in 0..count {
         match I::read_item(alloc, reader, kind)? {
             Met::Is(item) => add(&mut items, item)?,
@@ -108,7 +111,7 @@ fn read_items<I: Item>(
     Ok(Met::Is(items))
 }
 
-fn add<I: Drop>(items: &mut Rows<I>, item: I) -> Result<(), ThriftRefusal>
+fn add<I: Drop>(items: &mut Sequence<I>, item: I) -> Result<(), ThriftRefusal>
     ensures { Adds items.old item items.new result }
 {
     match items.push(item) {

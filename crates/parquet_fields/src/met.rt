@@ -3,7 +3,7 @@ ghost use Rattle.parquet_fields.specs.Fields as defined;
 ghost use Rattle.parquet_fields.specs.Meets.{bad_items};
 
 use parquet_types::FieldRefusal;
-use pme_base::{Cause, Rows, StructName};
+use pme_base::{Cause, Sequence, StructName};
 
 /// What was met of a field of a struct.
 #[derive(Debug, Drop)]
@@ -29,7 +29,7 @@ impl<T: Drop> Met<T> {
     }
 
     /// The list whose first bad item this is.
-    pub(crate) fn as_items(self) -> Met<Rows<T>>
+    pub(crate) fn as_items(self) -> Met<Sequence<T>>
         ensures { result ≡ bad_items self }
     {
         match self {

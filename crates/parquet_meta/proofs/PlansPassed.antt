@@ -7,7 +7,7 @@ use Rattle.std.proofs.lemmas.List.{length-map}
 use Rattle.pme_base.specs.declared.place.Place.{Place}
 use Rattle.pme_base.specs.declared.refusal.Refusal.{Refusal}
 use Rattle.pme_base.specs.declared.refusal.StructName.TheVariants as name
-use Rattle.pme_base.proofs.Chain.{bind_ok}
+use Rattle.pme_base.proofs.Chain.{ok_same, bind_ok, tested, passed}
 use Rattle.pme_base.specs.Steps.{◌>>=◌}
 use Rattle.parquet_types.specs.declared.column.ColumnKind.{ColumnKind}
 use Rattle.parquet_types.specs.declared.column.ColumnKind.TheVariants as kind
@@ -29,34 +29,23 @@ use Rattle.parquet_meta.specs.PlanRules.{IsTextOf, AreTyped, text_of, typed_colu
 use Rattle.parquet_meta.specs.ReadBack.{NumbersFit, written, chunk_key, chunk_part, group_part, group_parts, root_part, column_part, converted_part, plan_fields}
 use Rattle.parquet_meta.proofs.ReadBackProved.{file_meta_read}
 
-value_is : {T : Type 0} (a b : T) → ◌≡◌ {A = Result T Refusal} (Ok a) (Ok b) → b ≡ a
-value_is a b e = cc
-
-passed : {T : Type 0} (b : Bool) (refusal : Refusal) (a t : T) → (if b then Err refusal else Ok a) ≡ Ok t → t ≡ a
-passed true refusal a t e = absurd cc
-passed false refusal a t e = value_is a t e
-
-equal_if : (b : Bool) (refusal : Refusal) (u : Unit {0}) → (if b then Ok tt else Err refusal) ≡ Ok u → b ≡ true
-equal_if true refusal u e = refl
-equal_if false refusal u e = absurd cc
-
 equal_were : (place : Place) (a b : ℤ) (u : Unit {0}) → rule.same_number place a b ≡ Ok u → a ≡ b
-equal_were place a b u e = let same : int_eq a b ≡ true = equal_if (int_eq a b) _ u e in grind (arith, ints, same)
+equal_were place a b u e = let same : int_eq a b ≡ true = (tested (int_eq a b) tt u _ e).0 in grind (arith, ints, same)
 
 -- a column
 kind_was : (place : Place) (k found : ColumnKind) → rule.kind_of place (Some (kind_number k)) (fixed_length k) ≡ Ok found → found ≡ k
-kind_was place kind.Boolean found e = value_is kind.Boolean found e
-kind_was place kind.Int32 found e = value_is kind.Int32 found e
-kind_was place kind.Int64 found e = value_is kind.Int64 found e
-kind_was place kind.Int96 found e = value_is kind.Int96 found e
-kind_was place kind.Float found e = value_is kind.Float found e
-kind_was place kind.Double found e = value_is kind.Double found e
-kind_was place kind.ByteArray found e = value_is kind.ByteArray found e
-kind_was place (kind.Fixed length) found e = passed (int_lt (pos length) (pos 1)) _ (kind.Fixed length) found e
+kind_was place kind.Boolean found e = sym (ok_same kind.Boolean found e)
+kind_was place kind.Int32 found e = sym (ok_same kind.Int32 found e)
+kind_was place kind.Int64 found e = sym (ok_same kind.Int64 found e)
+kind_was place kind.Int96 found e = sym (ok_same kind.Int96 found e)
+kind_was place kind.Float found e = sym (ok_same kind.Float found e)
+kind_was place kind.Double found e = sym (ok_same kind.Double found e)
+kind_was place kind.ByteArray found e = sym (ok_same kind.ByteArray found e)
+kind_was place (kind.Fixed length) found e = sym (ok_same (kind.Fixed length) found (passed (int_lt (pos length) (pos 1)) _ (Ok (kind.Fixed length)) found e).1)
 
 optional_was : (place : Place) (optional found : Bool) → rule.optional_of place (Some (repetition optional)) ≡ Ok found → found ≡ optional
-optional_was place false found e = value_is false found e
-optional_was place true found e = value_is true found e
+optional_was place false found e = sym (ok_same false found e)
+optional_was place true found e = sym (ok_same true found e)
 
 text_was : (k : ColumnKind) (text : Bool) → rule.is_text k (converted_part text) ≡ text_of k text
 text_was kind.ByteArray false = refl
@@ -84,18 +73,18 @@ column_was place earlier column found e =
     let k = bind_ok (rule.kind_of place (Some (kind_number column.kind)) (fixed_length column.kind)) (kept place earlier column) found e in
     let o = bind_ok (rule.optional_of place (Some (repetition column.optional))) (named place earlier column k.0) found k.2 in
     let n = bind_ok (rule.fresh_name place column.name earlier) (λ new. Ok (column_with column k.0 o.0 (rule.is_text k.0 (converted_part column.text)))) found o.2 in
-    value_is (column_with column k.0 o.0 (rule.is_text k.0 (converted_part column.text))) found n.2
+    sym (ok_same (column_with column k.0 o.0 (rule.is_text k.0 (converted_part column.text))) found n.2)
     ∙ (ap (λ x. column_with column x o.0 (rule.is_text x (converted_part column.text))) (kind_was place column.kind k.0 k.1)
     ∙ (ap (λ x. column_with column column.kind x (rule.is_text column.kind (converted_part column.text))) (optional_was place column.optional o.0 o.1)
     ∙ ap (λ x. column_with column column.kind column.optional x) (text_was column.kind column.text)))
 
 columns_were : (place : Place) (earlier : rule.Names) (columns found : List ColumnSpec) → rule.columns_of place earlier (map_list column_part columns) ≡ Ok found → found ≡ map_list typed_column columns
-columns_were place earlier [] found e = value_is [] found e
+columns_were place earlier [] found e = sym (ok_same [] found e)
 columns_were place earlier (column ∷ columns) found e =
     let others : Result (List ColumnSpec) Refusal = rule.columns_of place (insert earlier column.name) (map_list column_part columns) in
     let one = bind_ok (rule.column_of place earlier (column_part column)) (λ c. others >>= λ cs. Ok (c ∷ cs)) found e in
     let more = bind_ok others (λ cs. Ok (one.0 ∷ cs)) found one.2 in
-    value_is (one.0 ∷ more.0) found more.2
+    sym (ok_same (one.0 ∷ more.0) found more.2)
     ∙ (ap (λ c. c ∷ more.0) (column_was place earlier column one.0 one.1)
     ∙ ap (λ cs. typed_column column ∷ cs) (columns_were place (insert earlier column.name) columns more.0 more.1))
 
@@ -108,11 +97,11 @@ schema_was place columns found e =
 
 -- the chunks of a group
 crypto_was : (place : Place) (text column : List ℕ) (crypto found : ChunkCrypto) → rule.chunk_crypto place column (chunk_key text crypto) ≡ Ok found → found ≡ crypto
-crypto_was place text column key.Plain found e = value_is key.Plain found e
-crypto_was place text column key.FooterKey found e = value_is key.FooterKey found e
+crypto_was place text column key.Plain found e = sym (ok_same key.Plain found e)
+crypto_was place text column key.FooterKey found e = sym (ok_same key.FooterKey found e)
 crypto_was place text column (key.ColumnKey metadata) found e =
     let own = bind_ok (rule.own_path place (text ∷ []) column) (λ u. Ok (key.ColumnKey metadata)) found e in
-    value_is (key.ColumnKey metadata) found own.2
+    sym (ok_same (key.ColumnKey metadata) found own.2)
 
 abbrev chunk_with : WrittenChunk → ChunkCrypto → ChunkMeta
 chunk_with chunk crypto = record { crypto = crypto; plain_meta = (chunk_part chunk).plain_meta; sealed_meta = chunk.sealed_meta }
@@ -120,17 +109,17 @@ chunk_with chunk crypto = record { crypto = crypto; plain_meta = (chunk_part chu
 chunk_was : (place : Place) (column : List ℕ) (chunk : WrittenChunk) (found : ChunkMeta) → rule.chunk_of place column (chunk_part chunk) ≡ Ok found → found ≡ planned_chunk chunk
 chunk_was place column chunk found e =
     let crypto = bind_ok (rule.chunk_crypto place column (chunk_key chunk.spec.name chunk.crypto)) (λ k. Ok (chunk_with chunk k)) found e in
-    value_is (chunk_with chunk crypto.0) found crypto.2 ∙ ap (chunk_with chunk) (crypto_was place chunk.spec.name column chunk.crypto crypto.0 crypto.1)
+    sym (ok_same (chunk_with chunk crypto.0) found crypto.2) ∙ ap (chunk_with chunk) (crypto_was place chunk.spec.name column chunk.crypto crypto.0 crypto.1)
 
 chunks_were : (place : Place) (columns : List ColumnSpec) (chunks : List WrittenChunk) (found : List ChunkMeta) → length chunks ≡ length columns → rule.chunks_of place columns (map_list chunk_part chunks) ≡ Ok found → found ≡ map_list planned_chunk chunks
-chunks_were place [] [] found as_many e = value_is [] found e
+chunks_were place [] [] found as_many e = sym (ok_same [] found e)
 chunks_were place [] (chunk ∷ chunks) found as_many e = absurd (omega (as_many, arith))
 chunks_were place (column ∷ columns) [] found as_many e = absurd (omega (as_many, arith))
 chunks_were place (column ∷ columns) (chunk ∷ chunks) found as_many e =
     let others : Result (List ChunkMeta) Refusal = rule.chunks_of place columns (map_list chunk_part chunks) in
     let one = bind_ok (rule.chunk_of place column.name (chunk_part chunk)) (λ c. others >>= λ cs. Ok (c ∷ cs)) found e in
     let more = bind_ok others (λ cs. Ok (one.0 ∷ cs)) found one.2 in
-    value_is (one.0 ∷ more.0) found more.2
+    sym (ok_same (one.0 ∷ more.0) found more.2)
     ∙ (ap (λ c. c ∷ more.0) (chunk_was place column.name chunk one.0 one.1)
     ∙ ap (λ cs. planned_chunk chunk ∷ cs) (chunks_were place columns chunks more.0 (omega (as_many, arith)) more.1))
 
@@ -156,15 +145,15 @@ group_was place columns position group found e =
     let chunks = bind_ok (rule.chunks_of place columns parts) (λ cs. Ok (group_with position group cs)) found placed.2 in
     let sized : pos (length parts) ≡ pos (length columns) = equal_were place (pos (length parts)) (pos (length columns)) whole.0 whole.1 in
     let same : length group.chunks ≡ length columns = sym (length-map group.chunks chunk_part) ∙ cc in
-    value_is (group_with position group chunks.0) found chunks.2 ∙ ap (group_with position group) (chunks_were place columns group.chunks chunks.0 same chunks.1)
+    sym (ok_same (group_with position group chunks.0) found chunks.2) ∙ ap (group_with position group) (chunks_were place columns group.chunks chunks.0 same chunks.1)
 
 groups_were : (place : Place) (columns : List ColumnSpec) (position : ℕ) (groups : List WrittenGroup) (found : List RowGroupMeta) → rule.groups_of place columns position (group_parts position groups) ≡ Ok found → found ≡ planned_groups position groups
-groups_were place columns position [] found e = value_is [] found e
+groups_were place columns position [] found e = sym (ok_same [] found e)
 groups_were place columns position (group ∷ groups) found e =
     let others : Result (List RowGroupMeta) Refusal = rule.groups_of place columns (position + 1) (group_parts (position + 1) groups) in
     let one = bind_ok (rule.group_of place columns position (group_part position group)) (λ g. others >>= λ gs. Ok (g ∷ gs)) found e in
     let more = bind_ok others (λ gs. Ok (one.0 ∷ gs)) found one.2 in
-    value_is (one.0 ∷ more.0) found more.2
+    sym (ok_same (one.0 ∷ more.0) found more.2)
     ∙ (ap (λ g. g ∷ more.0) (group_was place columns position group one.0 one.1)
     ∙ ap (λ gs. planned_group position group ∷ gs) (groups_were place columns (position + 1) groups more.0 more.1))
 
@@ -190,7 +179,7 @@ file_was place plan found e =
     let few = bind_ok (rule.not_more place (length (group_parts 0 plan.groups))) (λ f. grouped place plan schema.0) found counted.2 in
     let groups = bind_ok (rule.groups_of place schema.0 0 (group_parts 0 plan.groups)) (λ groups. summed place plan schema.0 groups) found few.2 in
     let sum = bind_ok (rule.same_rows place (rule.all_rows groups.0) plan.num_rows) (λ s. Ok (file_with plan schema.0 groups.0)) found groups.2 in
-    value_is (file_with plan schema.0 groups.0) found sum.2
+    sym (ok_same (file_with plan schema.0 groups.0) found sum.2)
     ∙ (ap (λ columns. file_with plan columns groups.0) (schema_was place plan.schema schema.0 schema.1)
     ∙ ap (λ gs. file_with plan (map_list typed_column plan.schema) gs) (groups_were place schema.0 0 plan.groups groups.0 groups.1))
 
@@ -201,7 +190,7 @@ pub typed_plan_read :
 typed_plan_read place plan rest read fits numbers e =
     let size = length (written (file_meta_data plan)) in
     let file = bind_ok (rule.file_of place (plan_fields plan)) (λ file. Ok (file, size)) read (sym (file_meta_read place plan rest fits numbers) ∙ e) in
-    value_is (file.0, size) read file.2 ∙ ap (λ f. (f, size)) (file_was place plan file.0 file.1)
+    sym (ok_same (file.0, size) read file.2) ∙ ap (λ f. (f, size)) (file_was place plan file.0 file.1)
 
 text_is : (k : ColumnKind) (text : Bool) → IsTextOf k text → text_of k text ≡ text
 text_is kind.ByteArray text is_one = refl

@@ -1,4 +1,4 @@
-use pme_base::{Bytes, Rows};
+use pme_base::{Bytes, Sequence};
 
 /// The physical type of a column, as `parquet.thrift`'s `Type` names it.
 #[derive(Clone, Copy, Debug, PartialEq, Eq, Drop)]
@@ -25,4 +25,4 @@ pub struct ColumnSpec {
 }
 
 /// The columns of a file, in order.
-pub type FlatSchema = Rows<ColumnSpec>;
+pub type FlatSchema = Sequence<ColumnSpec>;

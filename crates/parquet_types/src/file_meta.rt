@@ -1,8 +1,8 @@
 use crate::column::FlatSchema;
-use pme_base::{Bytes, Rows};
+use pme_base::{Bytes, Sequence};
 
 /// The names of a column's path, outermost first.
-pub type PathList = Rows<Bytes>;
+pub type PathList = Sequence<Bytes>;
 
 /// The algorithm that seals a file's modules: AES_GCM_CTR_V1 where `ctr`, else AES_GCM_V1; with the prefix of the
 /// associated data where the file stores it, the file's own part of it, and whether a reader must supply the prefix.
@@ -49,7 +49,7 @@ pub struct ChunkMeta {
 }
 
 /// The chunks of a row group, in the order of the columns.
-pub type ChunkList = Rows<ChunkMeta>;
+pub type ChunkList = Sequence<ChunkMeta>;
 
 /// A row group.
 #[derive(Debug, Drop)]
@@ -60,7 +60,7 @@ pub struct RowGroupMeta {
 }
 
 /// The row groups of a file, in order.
-pub type GroupList = Rows<RowGroupMeta>;
+pub type GroupList = Sequence<RowGroupMeta>;
 
 /// A file's footer.
 #[derive(Debug, Drop)]

@@ -1,6 +1,6 @@
 // A footer as its fields are read, before the rules on their values.
 use crate::file_meta::{AlgorithmMeta, ColumnMeta, PathList};
-use pme_base::{Bytes, Rows};
+use pme_base::{Bytes, Sequence};
 
 /// An element of a schema.
 #[derive(Debug, Drop)]
@@ -35,7 +35,7 @@ pub struct ColumnChunk {
 /// A row group.
 #[derive(Debug, Drop)]
 pub struct RowGroup {
-    pub chunks: Rows<ColumnChunk>,
+    pub chunks: Sequence<ColumnChunk>,
     pub num_rows: i64,
     pub ordinal: Option<i16>,
 }
@@ -43,9 +43,9 @@ pub struct RowGroup {
 /// A file's footer.
 #[derive(Debug, Drop)]
 pub struct FileFields {
-    pub schema: Rows<SchemaElement>,
+    pub schema: Sequence<SchemaElement>,
     pub num_rows: i64,
-    pub groups: Rows<RowGroup>,
+    pub groups: Sequence<RowGroup>,
     pub algorithm: Option<AlgorithmMeta>,
     pub signing_key_metadata: Option<Bytes>,
 }

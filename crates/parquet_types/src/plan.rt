@@ -1,6 +1,6 @@
 use crate::column::{ColumnSpec, FlatSchema};
 use crate::file_meta::{AlgorithmMeta, ChunkCrypto};
-use pme_base::{Bytes, Rows};
+use pme_base::{Bytes, Sequence};
 
 /// A column chunk as it was written. `uncompressed` counts the bytes of its headers and bodies in plain, `stored` its
 /// bytes in the file, and `start` is its offset there. `sealed_meta` is the module of its sealed metadata, and
@@ -18,7 +18,7 @@ pub struct WrittenChunk {
 }
 
 /// The chunks of a row group, in the order of the columns.
-pub type WrittenChunks = Rows<WrittenChunk>;
+pub type WrittenChunks = Sequence<WrittenChunk>;
 
 /// A row group as it was written.
 #[derive(Debug, Drop)]
@@ -28,7 +28,7 @@ pub struct WrittenGroup {
 }
 
 /// The row groups of a file, in order.
-pub type WrittenGroups = Rows<WrittenGroup>;
+pub type WrittenGroups = Sequence<WrittenGroup>;
 
 /// What a footer says of a file that was written. With a signed footer it has the algorithm and the metadata of the key
 /// that signs.

@@ -25,8 +25,8 @@ more bytes at done place count into piece inside fits here so next = record {
   within = omega (arith, next.within, so.within, here);
 }
 
-pub more_told : (files : Option Published) (name : List ℕ) (at done place count : ℕ) (into piece : List ℕ) → done ≤ length into → count ≤ length piece → place ≡ at + done
-    → IfSome files (λ told. IsReadSoFar (bytes_of told name) at done into) → IfSome files (λ told. IsReadAt (bytes_of told name) place count piece)
-    → IfSome files (λ told. IsReadSoFar (bytes_of told name) at (done + count) (put_mid done (length into - done) into piece))
-more_told None name at done place count into piece inside fits here so next = tt
-more_told (Some told) name at done place count into piece inside fits here so next = more (bytes_of told name) at done place count into piece inside fits here so next
+pub more_read : (files : Option Published) (name : List ℕ) (at done place count : ℕ) (into piece : List ℕ) → done ≤ length into → count ≤ length piece → place ≡ at + done
+    → IfSome files (λ published. IsReadSoFar (bytes_of published name) at done into) → IfSome files (λ published. IsReadAt (bytes_of published name) place count piece)
+    → IfSome files (λ published. IsReadSoFar (bytes_of published name) at (done + count) (put_mid done (length into - done) into piece))
+more_read None name at done place count into piece inside fits here so next = tt
+more_read (Some published) name at done place count into piece inside fits here so next = more (bytes_of published name) at done place count into piece inside fits here so next

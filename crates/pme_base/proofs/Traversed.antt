@@ -6,6 +6,9 @@ use Rattle.pme_base.specs.Steps.{◌>>=◌}
 use Rattle.pme_base.specs.Lists.{traverse, made_before}
 use Rattle.pme_base.proofs.Chain.{bind_ok, bind_at, bind_err, ok_same}
 
+pub none_in_empty : {A : Type 0} (x : A) → Contains [] x → ⊥
+none_in_empty x (k, inside, is) = omega arith
+
 -- an item of a list is its first or one of the others
 pub first_or_other : {A : Type 0} (x : A) (xs : List A) (y : A) → Contains (x ∷ xs) y → (x ≡ y) ⊎ Contains xs y
 first_or_other x xs y (zero, inside, is) = inl is
@@ -40,10 +43,7 @@ module _ {A B E : Type 0} (f : A → Result B E) where
 
   -- each item was made of one of the list
   pub made_of : (xs : List A) (ys : List B) (y : B) → traverse f xs ≡ Ok ys → Contains ys y → (x : A) × Contains xs x × (f x ≡ Ok y)
-  made_of [] ys y e has = absurd (none_there (subst (λ l. Contains l y) (sym (ok_same [] ys e)) has))
-    where
-      none_there : Contains [] y → ⊥
-      none_there (k, inside, is) = omega arith
+  made_of [] ys y e has = absurd (none_in_empty y (subst (λ l. Contains l y) (sym (ok_same [] ys e)) has))
   made_of (x ∷ xs) ys y e has =
       let (z, more, here, there, is) = first_made x xs ys e in
       elim (first_or_other z more y (subst (λ l. Contains l y) is has)) [

@@ -7,3 +7,4 @@ pub mod Counts
 pub mod Drafts
 pub mod Lending
 pub mod Lists
+pub mod Reading

@@ -23,7 +23,7 @@ impl Model for Bytes {
 impl Bytes {
     ghost use Rattle.pme_base.specs.Lending.{LendsBytes};
 
-    /// The empty list; it takes no memory yet.
+    /// Returns an empty list. It allocates nothing.
     pub fn new(alloc: Global) -> Bytes
         ensures { result ≡ [] }
     {
@@ -32,7 +32,7 @@ impl Bytes {
         }
     }
 
-    /// The bytes of `vec`, without a copy.
+    /// Takes over the bytes of `vec` without copying them.
     pub fn from_vec(vec: Vec<u8>) -> Bytes
         ensures { result ≡ vec.items }
     {
@@ -47,7 +47,7 @@ impl Bytes {
         Ok(Bytes { items })
     }
 
-    /// Takes the bytes out without a copy, and leaves none. What was taken may be changed and put back by `from_vec`.
+    /// Takes the bytes out without copying them and leaves the list empty. `from_vec` puts them back.
     pub fn take(&mut self) -> Vec<u8>
         ensures taken { result.items ≡ self.old }
         ensures left { self.new ≡ [] }
@@ -56,7 +56,7 @@ impl Bytes {
         mem::replace(&mut self.items, Vec::new(alloc))
     }
 
-    /// Adds one byte at the end.
+    /// Appends one byte. On OutOfMemory the list is unchanged.
     pub fn push(&mut self, byte: u8) -> Result<(), OutOfMemory>
         ensures ok { OnOk result (self.new ≡ self.old ++ byte ∷ []) }
         ensures unchanged { OnErr result (self.new ≡ self.old) }
@@ -65,7 +65,7 @@ impl Bytes {
         Ok(())
     }
 
-    /// Adds `more` at the end.
+    /// Appends `more`. On OutOfMemory the list is unchanged.
     pub fn extend(&mut self, more: &[u8]) -> Result<(), OutOfMemory>
         ensures ok { OnOk result (self.new ≡ self.old ++ more.now) }
         ensures unchanged { OnErr result (self.new ≡ self.old) }
@@ -74,14 +74,14 @@ impl Bytes {
         Ok(())
     }
 
-    /// The bytes.
+    /// The bytes as a slice.
     pub fn as_slice(&self) -> &[u8]
         ensures { result.now ≡ self.now }
     {
         self.items.as_slice()
     }
 
-    /// The bytes, to be changed in their places. The list keeps its length.
+    /// The bytes as a mutable slice.
     pub fn as_mut_slice(&mut self) -> &mut [u8]
         ensures* writes_back { sem 𝓛 (LendsBytes self.entry result) }
         ensures value { result.now ≡ self.old }
@@ -89,7 +89,7 @@ impl Bytes {
         self.items.as_mut_slice()
     }
 
-    /// Makes room for `more` further bytes, so that adding them takes no memory.
+    /// Reserves capacity for `more` further bytes, so that appending them allocates nothing.
     pub fn reserve(&mut self, more: usize) -> Result<(), OutOfMemory>
         ensures { self.new ≡ self.old }
     {
@@ -97,21 +97,21 @@ impl Bytes {
         Ok(())
     }
 
-    /// Drops the bytes from `len` on; where there are no more than `len`, nothing changes.
+    /// Keeps the first `len` bytes. A list of at most `len` bytes is unchanged.
     pub fn truncate(&mut self, len: usize)
         ensures { self.new ≡ take len self.old }
     {
         self.items.truncate(len);
     }
 
-    /// How many bytes there are.
+    /// The number of bytes.
     pub fn len(&self) -> usize
         ensures { result ≡ length self.now }
     {
         self.items.len()
     }
 
-    /// Whether there is no byte.
+    /// Whether the list is empty.
     pub fn is_empty(&self) -> bool
         ensures { result ≡ (length self.now == 0) }
     {

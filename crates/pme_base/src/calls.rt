@@ -4,29 +4,30 @@ ghost use Rattle.pme_base.specs.Counts.{Rose};
 
 use crate::memory_error::OutOfMemory;
 use crate::outside::Failed;
-use crate::rows::Rows;
+use crate::sequence::Sequence;
 use std::alloc::Global;
 
-/// The calls that an object in memory has had, and those that are set to fail, by number.
+/// Counts the calls of an in-memory object and knows which of them, by number, are set to fail.
 #[derive(Drop)]
 pub struct Calls {
     made: u64,
-    failing: Rows<u64>,
+    failing: Sequence<u64>,
     faults: u64,
 }
 
 impl Calls {
+    /// No calls yet, and none set to fail.
     pub fn new(alloc: Global) -> Calls
         ensures { result ≡ no_calls }
     {
         Calls {
             made: 0,
-            failing: Rows::new(alloc),
+            failing: Sequence::new(alloc),
             faults: 0,
         }
     }
 
-    /// Sets the call of this number to fail.
+    /// Sets call number `call` to fail. Calls are counted from 0.
     pub fn fail(&mut self, call: u64) -> Result<(), OutOfMemory>
         ensures ok { OnOk result (self.new ≡ record self.old { failing = self.old.failing ++ call ∷ [] }) }
         ensures unchanged { OnErr result (self.new ≡ self.old) }
@@ -34,7 +35,7 @@ impl Calls {
         self.failing.push(call)
     }
 
-    /// Counts one more call, which fails where it is set to fail.
+    /// Counts one call. It fails if it was set to fail.
     pub fn begin(&mut self) -> Result<(), Failed>
         ensures fails { is_err result ≡ is_failing self.old }
         ensures called { self.new ≡ called (is_failing self.old) self.old }
@@ -50,7 +51,7 @@ impl Calls {
         Ok(())
     }
 
-    /// Counts one more fault.
+    /// Counts one fault.
     pub fn raise(&mut self)
         ensures raised { self.new ≡ record self.old { faults = one_more self.old.faults } }
         ensures later { self.old.faults ≤ self.new.faults }

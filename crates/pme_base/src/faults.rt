@@ -5,7 +5,7 @@ ghost use Rattle.pme_base.specs.Counts.{Rose};
 use crate::outside::Failed;
 use std::io;
 
-/// Hands on what a call of the system answered, and counts a fault where that is an error.
+/// Passes on the result of a system call, and counts a fault where it is an error.
 pub fn counted<T>(faults: &mut u64, answer: io::Result<T>) -> Result<T, Failed>
     ensures value { result_ok result ≡ result_ok answer }
     ensures later { faults.old ≤ faults.new }

@@ -1,5 +1,5 @@
-// What every crate above speaks in: byte lists and lists, the places of a file, refusals with their
-// causes, and the outside as three traits (files, random bytes, sinks) with objects in memory and real ones.
+//! Types shared by all crates: byte lists and lists, places of a file, refusals with their causes, and the
+//! traits `Files`, `Random` and `Sink` for input and output, each with an implementation in memory and a real one.
 #![tactic(auto)]
 
 mod bytes;
@@ -14,8 +14,8 @@ mod outside;
 mod place;
 mod reading;
 mod refusal;
-mod rest;
-mod rows;
+mod sequence;
+mod slices;
 mod std_files;
 mod std_random;
 mod std_sink;
@@ -30,11 +30,11 @@ pub use memory_error::OutOfMemory;
 pub use name_set::NameSet;
 pub use outside::{Failed, Files, Random, Sink, Trouble};
 pub use place::{OrdinalTooLarge, Place, PlaceKind};
-pub use reading::read_full;
+pub use reading::{buffer_of, file_size, read_full, read_refusal};
 pub use refusal::{
     Cause, Detail, ItemWord, PagePart, Refusal, StructName, ThriftFault, plain_refusal, refusal_at,
 };
-pub use rows::{Rest, Rows};
+pub use sequence::{Sequence, SequenceIter};
 pub use std_files::StdFiles;
 pub use std_random::StdRandom;
 pub use std_sink::StdSink;

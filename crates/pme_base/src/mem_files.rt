@@ -8,17 +8,17 @@ use crate::bytes::Bytes;
 use crate::calls::Calls;
 use crate::memory_error::OutOfMemory;
 use crate::outside::{Files, Trouble};
-use crate::rest::{copy_front, rest_from};
+use crate::slices::{copy_front, rest_from};
 use std::alloc::Global;
 use std::collections::VecDeque;
 use std::mem;
 
-/// Files in memory, for tests. They tell their contents, and any of their calls can be set to fail.
+/// Files in memory, for tests. Contracts see their contents, and any call can be set to fail.
 #[derive(Drop)]
 pub struct MemFiles {
     alloc: Global,
     calls: Calls,
-    // Every file that was ever published or stored, the newest first: a name has the bytes of its first entry.
+    // Every file that was published or stored, newest first. The first entry of a name holds its bytes.
     log: VecDeque<(Bytes, Bytes)>,
     pending: Bytes,
     given: u64,
@@ -31,7 +31,7 @@ pub struct MemFiles {
 impl MemFiles {
     ghost use Rattle.pme_base.specs.Memory.{memory, mem_published, no_calls};
 
-    /// No files, and nothing pending.
+    /// Returns no files and no pending bytes.
     pub fn new(alloc: Global) -> MemFiles
         ensures { memory result ≡ record { published = empty; pending = []; given = 0; largest_read = 0; largest_append = 0; calls = no_calls } }
     {
@@ -46,7 +46,7 @@ impl MemFiles {
         }
     }
 
-    /// Makes `bytes` the file `name`, in place of an older file of that name. This is no call of the trait.
+    /// Makes `bytes` the file `name`, replacing an older file of that name. It isn't counted as a call of the trait.
     pub fn store(&mut self, name: &str, bytes: &[u8]) -> Result<(), OutOfMemory>
         ensures ok { OnOk result (memory self.new ≡ record (memory self.old) { published = insert (mem_published self.old) name.now bytes.now }) }
         ensures unchanged { OnErr result (memory self.new ≡ memory self.old) }
@@ -57,28 +57,28 @@ impl MemFiles {
         Ok(())
     }
 
-    /// The bytes of the file `name`; None exactly where it isn't published.
+    /// The bytes of the file `name`; None where no such file is published.
     pub fn held(&self, name: &str) -> Option<&[u8]>
         ensures { option_copied result ≡ get (mem_published self.now) name.now }
     {
         newest(&self.log, name)
     }
 
-    /// The greatest length of an `into` in a `read_at` so far, in bytes; 0 before the first.
+    /// The length of the largest buffer given to `read_at` so far, in bytes; 0 before the first call.
     pub fn largest_read(&self) -> u64
         ensures { result ≡ (memory self.now).largest_read }
     {
         self.largest_read
     }
 
-    /// The greatest length of the bytes of an `append` so far; 0 before the first.
+    /// The length of the largest `append` so far, in bytes; 0 before the first call.
     pub fn largest_append(&self) -> u64
         ensures { result ≡ (memory self.now).largest_append }
     {
         self.largest_append
     }
 
-    /// Sets the trait call of this number to fail. Trait calls are counted from 0 since the object was made.
+    /// Sets trait call number `call` to fail. Trait calls are counted from 0.
     pub fn fail(&mut self, call: u64) -> Result<(), OutOfMemory>
         ensures ok { let calls = (memory self.old).calls in OnOk result (memory self.new ≡ record (memory self.old) { calls = record calls { failing = calls.failing ++ call ∷ [] } }) }
         ensures unchanged { OnErr result (memory self.new ≡ memory self.old) }
@@ -87,7 +87,7 @@ impl MemFiles {
     }
 }
 
-/// The bytes of the first entry of this name.
+/// The bytes of the first entry named `name`.
 fn newest<'a>(log: &'a VecDeque<(Bytes, Bytes)>, name: &str) -> Option<&'a [u8]>
     ensures { option_copied result ≡ find (slice_cmp nat_cmp) name.now log.now.items }
 {
@@ -115,7 +115,7 @@ impl Files for MemFiles {
     ghost pending_bytes = { λ m. m.pending_are_bytes };
 
     fn size(&mut self, name: &str) -> Result<Option<u64>, Trouble>
-        ensures told { IfOk result (λ size. size ≡ option_map length (get (mem_published self.old) name.now)) }
+        ensures answered { IfOk result (λ size. size ≡ option_map length (get (mem_published self.old) name.now)) }
         ensures published { Some (mem_published self.new) ≡ Some (mem_published self.old) }
         ensures pending { OnOk result (Some (mem_pending self.new) ≡ Some (mem_pending self.old)) }
         ensures given { (memory self.new).given ≡ (memory self.old).given }
@@ -133,7 +133,7 @@ impl Files for MemFiles {
 
     fn read_at(&mut self, name: &str, at: u64, into: &mut [u8]) -> Result<usize, Trouble>
         ensures within { IfOk result (λ count. count ≤ length into.new) }
-        ensures told { IfOk result (λ count. IsReadAt (bytes_of (mem_published self.old) name.now) at count into.new) }
+        ensures answered { IfOk result (λ count. IsReadAt (bytes_of (mem_published self.old) name.now) at count into.new) }
         ensures published { Some (mem_published self.new) ≡ Some (mem_published self.old) }
         ensures pending { OnOk result (Some (mem_pending self.new) ≡ Some (mem_pending self.old)) }
         ensures given { (memory self.new).given ≡ given_after (memory self.old).given result }

@@ -6,10 +6,10 @@ use crate::bytes::Bytes;
 use crate::calls::Calls;
 use crate::memory_error::OutOfMemory;
 use crate::outside::{Failed, Random};
-use crate::rest::{are_bytes, rest_from};
+use crate::slices::{are_bytes, rest_from};
 use std::alloc::Global;
 
-/// A source of known bytes, for tests. It tells them, and any of its calls can be set to fail.
+/// A source of known bytes, for tests. Contracts see them, and any call can be set to fail.
 #[derive(Drop)]
 pub struct MemRandom {
     calls: Calls,
@@ -21,7 +21,7 @@ pub struct MemRandom {
 impl MemRandom {
     ghost use Rattle.pme_base.specs.Memory.{mem_to_come, no_calls};
 
-    /// A source with `bytes` still to come.
+    /// A source that gives `bytes`, and then fails.
     pub fn new(alloc: Global, bytes: Bytes) -> MemRandom
         ensures to_come { mem_to_come result ≡ bytes }
         ensures calls { result.calls ≡ no_calls }
@@ -34,7 +34,7 @@ impl MemRandom {
         }
     }
 
-    /// Sets the call of `fill` of this number to fail, counted from 0 since the object was made.
+    /// Sets call number `call` of `fill` to fail. Calls are counted from 0.
     pub fn fail(&mut self, call: u64) -> Result<(), OutOfMemory>
         ensures ok { OnOk result (self.new.calls ≡ record self.old.calls { failing = self.old.calls.failing ++ call ∷ [] }) }
         ensures unchanged { OnErr result (self.new.calls ≡ self.old.calls) }
@@ -56,7 +56,7 @@ impl Random for MemRandom {
     ghost bytes = { λ m i. subst (λ b. b < 256) (sym (get_or-drop m.next m.bytes i 0)) (m.are_bytes (m.next + i)) };
 
     fn fill(&mut self, into: &mut [u8]) -> Result<(), Failed>
-        ensures told { OnOk result (IsDrawn (mem_to_come self.old) into.new) }
+        ensures answered { OnOk result (IsDrawn (mem_to_come self.old) into.new) }
         ensures rest { OnOk result (Some (mem_to_come self.new) ≡ option_map (drop (length into.new)) (Some (mem_to_come self.old))) }
         ensures later { self.old.calls.faults ≤ self.new.calls.faults }
         ensures failed { OnErr result (Rose self.old.calls.faults self.new.calls.faults) }

@@ -8,7 +8,7 @@ use crate::memory_error::OutOfMemory;
 use crate::outside::{Sink, Trouble};
 use std::alloc::Global;
 
-/// A sink in memory, for tests. It tells what was written, and any of its calls can be set to fail.
+/// A sink in memory, for tests. Contracts see what was written, and any call can be set to fail.
 #[derive(Drop)]
 pub struct MemSink {
     calls: Calls,
@@ -16,7 +16,7 @@ pub struct MemSink {
 }
 
 impl MemSink {
-    /// A sink that nothing was written to.
+    /// Returns an empty sink.
     pub fn new(alloc: Global) -> MemSink
         ensures written { mem_written result ≡ [] }
         ensures calls { result.calls ≡ no_calls }
@@ -34,7 +34,7 @@ impl MemSink {
         self.bytes.as_slice()
     }
 
-    /// Sets the call of `put` of this number to fail, counted from 0 since the object was made.
+    /// Sets call number `call` of `put` to fail. Calls are counted from 0.
     pub fn fail(&mut self, call: u64) -> Result<(), OutOfMemory>
         ensures ok { OnOk result (self.new.calls ≡ record self.old.calls { failing = self.old.calls.failing ++ call ∷ [] }) }
         ensures unchanged { OnErr result (self.new.calls ≡ self.old.calls) }

@@ -1,7 +1,7 @@
 use std::alloc::{AllocError, AllocFailed};
 use thiserror::Error;
 
-/// Memory was refused. It may come at any call that takes memory, and ends that call.
+/// An allocation failed. Any call that allocates may return it; no contract says when.
 #[derive(Clone, Copy, Debug, PartialEq, Eq, Drop, Error)]
 #[error("OutOfMemory")]
 pub struct OutOfMemory;

@@ -6,7 +6,7 @@ use std::alloc::Global;
 use std::collections::BTreeSet;
 use std::marker::Model;
 
-/// A set of names. Its time grows with the logarithm of their number.
+/// A set of names. Adding one takes time logarithmic in their number.
 #[derive(Drop)]
 pub struct NameSet {
     alloc: Global,
@@ -28,7 +28,7 @@ impl Model for NameSet {
 }
 
 impl NameSet {
-    /// The set with no name; it takes no memory yet.
+    /// Returns an empty set. It allocates nothing.
     pub fn new(alloc: Global) -> NameSet
         ensures { result ≡ set.empty }
     {
@@ -38,7 +38,7 @@ impl NameSet {
         }
     }
 
-    /// Adds a name, and answers whether it is a new one.
+    /// Adds a name. Returns whether it is new.
     pub fn add(&mut self, name: &[u8]) -> Result<bool, OutOfMemory>
         ensures added { IfOk result (λ added. added ≡ not (set.contains self.old name.now)) }
         ensures with_it { OnOk result (self.new ≡ set.insert self.old name.now) }

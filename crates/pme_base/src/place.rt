@@ -4,7 +4,7 @@ ghost use Rattle.pme_base.specs.Places.{NeedsColumn, NeedsPage, place_of};
 
 use thiserror::Error;
 
-/// What a place of a file is, or that it is the file itself or a module on its own.
+/// The kind of a place: the file itself, a module on its own, or a part of a file.
 #[derive(Clone, Copy, Debug, PartialEq, Eq, Drop)]
 pub enum PlaceKind {
     File,
@@ -19,7 +19,7 @@ pub enum PlaceKind {
     OffsetIndex,
 }
 
-/// A place of a file. Ordinals that its kind doesn't use are 0, and none is above 32,767.
+/// A place in a file. Ordinals that its kind doesn't use are 0; the others are at most 32,767.
 #[derive(Clone, Copy, Debug, PartialEq, Eq, Drop)]
 pub struct Place {
     pub kind: PlaceKind,
@@ -28,7 +28,7 @@ pub struct Place {
     pub page: u16,
 }
 
-/// An ordinal above 32,767, the greatest that a module's associated data can hold.
+/// An ordinal is above 32,767, the largest that a module's associated data can hold.
 #[derive(Clone, Copy, Debug, PartialEq, Eq, Drop, Error)]
 #[error("OrdinalTooLarge")]
 pub struct OrdinalTooLarge;
@@ -57,7 +57,7 @@ impl Place {
         Place::without_ordinals(PlaceKind::Footer)
     }
 
-    /// The part `kind` of a column chunk. The kind has a row group and a column and no page.
+    /// The part `kind` of a column chunk. `kind` must be one that has a row group and a column and no page.
     pub fn at_column(kind: PlaceKind, row_group: u32, column: u32) -> Result<Place, OrdinalTooLarge>
         requires { NeedsColumn kind }
         ensures accepted { IsOk result ↔ ((row_group ≤ 32767) × (column ≤ 32767)) }
@@ -66,7 +66,7 @@ impl Place {
         Place::checked(kind, row_group, column, 0)
     }
 
-    /// The part `kind` of a data page. The kind has a row group, a column and a page.
+    /// The part `kind` of a data page. `kind` must be one that has a row group, a column and a page.
     pub fn at_page(
         kind: PlaceKind,
         row_group: u32,

@@ -4,7 +4,7 @@ ghost use Rattle.pme_base.specs.Refusals as defined;
 use crate::bytes::Bytes;
 use crate::place::Place;
 
-/// Why a call refused. Each has a number and a line of its own when the program prints it.
+/// Why a call refused its input. The program prints a number and a line for each.
 #[derive(Clone, Copy, Debug, PartialEq, Eq, Drop)]
 pub enum Cause {
     Truncated,
@@ -69,7 +69,7 @@ pub enum StructName {
     ColumnIndex,
 }
 
-/// What is wrong where bytes are no struct of Thrift's compact protocol.
+/// Why bytes are not a struct of Thrift's compact protocol.
 #[derive(Clone, Copy, Debug, PartialEq, Eq, Drop)]
 pub enum ThriftFault {
     End,
@@ -88,7 +88,7 @@ pub enum PagePart {
     Dictionary,
 }
 
-/// The item of a ring file that is bad.
+/// What is wrong with an item of a key ring file.
 #[derive(Clone, Copy, Debug, PartialEq, Eq, Drop)]
 pub enum ItemWord {
     Json,
@@ -104,7 +104,7 @@ pub enum ItemWord {
     GivenRepeated,
 }
 
-/// The values that a refusal tells. Which one a cause has is part of its meaning.
+/// The values that a refusal carries. Each cause has one variant.
 #[derive(Debug, PartialEq, Drop)]
 pub enum Detail {
     Nothing,
@@ -122,7 +122,7 @@ pub enum Detail {
     Entry(u64, u64),
 }
 
-/// A refusal: its cause, the place that it is about, an offset in bytes, and the values that it tells.
+/// A refusal: its cause, the place in the file, an offset in bytes, and further values.
 #[derive(Debug, PartialEq, Drop)]
 pub struct Refusal {
     pub cause: Cause,
@@ -131,7 +131,7 @@ pub struct Refusal {
     pub detail: Detail,
 }
 
-/// The refusal of these parts.
+/// Builds a refusal from its parts.
 pub fn refusal_at(cause: Cause, place: Place, at: u64, detail: Detail) -> Refusal
     ensures { result ≡ defined.refusal_at cause place at «detail» }
 {
@@ -143,7 +143,7 @@ pub fn refusal_at(cause: Cause, place: Place, at: u64, detail: Detail) -> Refusa
     }
 }
 
-/// The refusal of a cause that has no place and tells nothing.
+/// A refusal without a place, an offset or values.
 pub fn plain_refusal(cause: Cause) -> Refusal
     ensures { result ≡ defined.plain_refusal cause }
 {

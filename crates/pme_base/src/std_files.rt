@@ -13,12 +13,12 @@ use std::{fs, io, rt};
 /// The file in the current folder that holds the pending bytes.
 const PENDING: &str = "pme-pending.tmp";
 
-/// A file of the system has no byte from this offset on.
+/// No file of the system reaches this offset.
 const PAST_EVERY_END: u64 = 1 << 63;
 
-/// The files of the system, in the current folder or by path. They don't tell their contents.
+/// The files of the system, by a path from the current folder. Contracts don't see their contents.
 ///
-/// The pending bytes are in the file `pme-pending.tmp`, which is synced and then renamed when it is published.
+/// Pending bytes are written to the file `pme-pending.tmp`, which `publish` syncs and then renames.
 #[derive(Drop)]
 pub struct StdFiles<R: rt::Files> {
     alloc: Global,
@@ -29,7 +29,7 @@ pub struct StdFiles<R: rt::Files> {
     faults: u64,
 }
 
-/// The file that was read last. It stays open, so that many small reads open it once.
+/// The file that was read last. It stays open, so that many small reads of one file open it once.
 #[derive(Drop)]
 struct Opened<F> {
     name: Text,
@@ -37,7 +37,7 @@ struct Opened<F> {
 }
 
 impl<R: rt::Files + Drop> StdFiles<R> {
-    /// The files that `rt` gives.
+    /// The files that `rt` gives access to.
     pub fn new(alloc: Global, rt: R) -> StdFiles<R>
         ensures given { result.given ≡ 0 }
         ensures faults { result.faults ≡ 0 }
@@ -52,7 +52,7 @@ impl<R: rt::Files + Drop> StdFiles<R> {
         }
     }
 
-    /// The file `name`, open for reading; None where there is none.
+    /// Opens the file `name` for reading; None where there is no such file.
     fn opened(&mut self, name: &str) -> Result<Option<Opened<R::File>>, Trouble>
         ensures given { self.new.given ≡ self.old.given }
         ensures cause { HasCause self.old.faults self.new.faults result }
@@ -71,7 +71,7 @@ impl<R: rt::Files + Drop> StdFiles<R> {
         Ok(Some(Opened { name, file }))
     }
 
-    /// The file of the pending bytes, which is made where there is none.
+    /// Takes the file of the pending bytes, and creates it if there is none.
     fn take_pending(&mut self) -> Result<R::File, Trouble>
         ensures given { self.new.given ≡ self.old.given }
         ensures cause { HasCause self.old.faults self.new.faults result }
@@ -84,7 +84,7 @@ impl<R: rt::Files + Drop> StdFiles<R> {
     }
 }
 
-/// Reads once from offset `at`, again where a signal interrupts it.
+/// Reads once from offset `at`. A read that a signal interrupts is tried again.
 fn read_from<F: Read + Seek>(file: &mut F, at: u64, into: &mut [u8]) -> io::Result<usize>
     ensures { IfOk result (λ count. count ≤ length into.new) }
 {
@@ -156,7 +156,7 @@ impl<R: rt::Files + Drop> Files for StdFiles<R> {
     }
 
     fn publish(&mut self, name: &str) -> Result<(), Trouble> {
-        // The name may be that of the open file, which is another file from here on.
+        // Closed first: `name` may be the open file, which the rename replaces.
         self.last = None;
         let file = self.take_pending()?;
         counted(&mut self.faults, file.sync_all())?;

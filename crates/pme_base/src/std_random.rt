@@ -8,7 +8,7 @@ use std::{fs, rt};
 /// The system's source of random bytes.
 const DEVICE: &str = "/dev/urandom";
 
-/// The random bytes of the system, from `/dev/urandom`. They aren't told.
+/// Random bytes of the system, from `/dev/urandom`. Contracts don't see which bytes come.
 #[derive(Drop)]
 pub struct StdRandom<R: rt::Files> {
     rt: R,
@@ -16,7 +16,7 @@ pub struct StdRandom<R: rt::Files> {
 }
 
 impl<R: rt::Files> StdRandom<R> {
-    /// The source that `rt` gives.
+    /// A source that opens the device through `rt`.
     pub fn new(rt: R) -> StdRandom<R>
         ensures { result.faults ≡ 0 }
     {

@@ -4,7 +4,7 @@ use crate::faults::counted;
 use crate::outside::{Sink, Trouble};
 use std::io;
 
-/// A writer of the system, such as standard output or standard error. It doesn't tell what was written.
+/// A writer of the system, such as standard output or standard error. Contracts don't see what was written.
 #[derive(Drop)]
 pub struct StdSink<W: io::Write> {
     writer: W,
@@ -12,7 +12,7 @@ pub struct StdSink<W: io::Write> {
 }
 
 impl<W: io::Write> StdSink<W> {
-    /// The sink that writes to `writer`.
+    /// A sink that writes to `writer`.
     pub fn new(writer: W) -> StdSink<W>
         ensures { result.faults ≡ 0 }
     {

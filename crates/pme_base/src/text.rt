@@ -20,7 +20,7 @@ impl Model for Text {
 }
 
 impl Text {
-    /// The empty text; it takes no memory.
+    /// Returns an empty text. It allocates nothing.
     pub fn new(alloc: Global) -> Text
         ensures { result ≡ [] }
     {
@@ -37,14 +37,14 @@ impl Text {
         Ok(Text { string })
     }
 
-    /// The text.
+    /// The text as a string slice.
     pub fn as_str(&self) -> &str
         ensures { result.now ≡ self.now }
     {
         self.string.as_str()
     }
 
-    /// The bytes of the text, without a copy.
+    /// Turns the text into its UTF-8 bytes without copying them.
     pub fn into_bytes(self) -> Bytes
         ensures { result ≡ self }
     {

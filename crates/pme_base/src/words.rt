@@ -22,7 +22,7 @@ impl Model for Words {
 }
 
 impl Words {
-    /// No words; it takes no memory yet.
+    /// Returns an empty list. It allocates nothing.
     pub fn new(alloc: Global) -> Words
         ensures { result ≡ [] }
     {
@@ -32,7 +32,7 @@ impl Words {
         }
     }
 
-    /// Adds a copy of `word` at the end.
+    /// Appends a copy of `word`. On OutOfMemory the list is unchanged.
     pub fn push(&mut self, word: &str) -> Result<(), OutOfMemory>
         ensures ok { OnOk result (self.new ≡ self.old ++ word.now ∷ []) }
         ensures unchanged { OnErr result (self.new ≡ self.old) }
@@ -42,14 +42,14 @@ impl Words {
         Ok(())
     }
 
-    /// How many words there are.
+    /// The number of words.
     pub fn len(&self) -> usize
         ensures { result ≡ length self.now }
     {
         self.texts.len()
     }
 
-    /// The word at `i`; None exactly from `len` on.
+    /// The word at index `i`; None where `i` is `len` or more.
     pub fn get(&self, i: usize) -> Option<&str>
         ensures { option_copied result ≡ slice_get self.now i }
     {
@@ -59,7 +59,7 @@ impl Words {
         }
     }
 
-    /// The words.
+    /// The words as a slice.
     pub fn as_slice(&self) -> &[Text]
         ensures { result.now ≡ self.now }
     {

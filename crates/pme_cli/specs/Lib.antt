@@ -1,13 +1,2 @@
-pub mod Stops
 pub mod Outcomes
-pub mod Reading
-pub mod SealedFile
-pub mod SmallFile
-pub mod KeysInput
-pub mod Printing
-pub mod TextCommand
-pub mod ModuleCommand
-pub mod ThriftCommand
-pub mod TailText
-pub mod FooterCommand
-pub mod Lines
+pub mod Guarantees

@@ -1,18 +1,7 @@
-// The program `pme`: the real outside, the words of its line, and the status that the process ends with.
+//! The program `pme`: connects `run` to the command line, the file system and the standard streams.
 #![tactic(auto)]
 
-mod commands;
-#[cfg(test)]
-mod footer_tests;
-mod keys_file;
-mod opened;
-mod printing;
-mod reading;
 mod run;
-mod sealed_file;
-mod small_file;
-mod stop;
-mod tail_text;
 #[cfg(test)]
 mod tests;
 
@@ -22,11 +11,11 @@ use std::env;
 use std::io::ErrorKind;
 use std::process::ExitCode;
 
-/// The status that tells that memory was refused.
+/// The exit status of OutOfMemory.
 const OUT_OF_MEMORY: u8 = 70;
 
-/// The words after the program's name, or None where memory was refused. Arguments that aren't UTF-8 are no line of
-/// the table, as no words are.
+/// The words after the program's name; None where an allocation failed. Arguments that aren't UTF-8 give an empty list
+/// of words, which is refused as Usage.
 fn words_of(rt: &HostRuntime, alloc: Global) -> Option<Words> {
     let mut words = Words::new(alloc);
     let args = match env::args(rt) {

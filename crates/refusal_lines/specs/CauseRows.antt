@@ -1,9 +1,9 @@
--- The table of causes: the number that the program ends with, the name, and the class of the line.
+-- The table of causes: the number that the program ends with, the name, and the form of the line.
 use Rattle.std.specs.Prelude.{ℕ, List, codes}
 use Rattle.pme_base.specs.declared.refusal.Cause.{Cause}
 use Rattle.pme_base.specs.declared.refusal.Cause.TheVariants.{Truncated, BadLength, BadTag, BadThrift, MissingField, BadField, BadMagic, BadFooterLength, NotEncrypted, PrefixNeeded, PrefixUnused, PrefixDiffers, FooterKeyMissing, AlgorithmRefused, Unsupported, Mismatch, BadPage, Hidden, NoSuchColumn, BadMaterial, NoMaterial, WrapTag, KeyLength, NotExternal, Denied, ServiceFault, BadPolicy, FileExists, NonceRepeated, BadTable, BadRing, BadKeys, TooLarge, NoFile, ReadFault, WriteFault, RandomFault, Usage, OutOfMemory}
-use Rattle.refusal_lines.specs.declared.cause_table.Class.{Class}
-use Rattle.refusal_lines.specs.declared.cause_table.Class.TheVariants.{A, B, C}
+use Rattle.refusal_lines.specs.declared.cause_table.LineForm.{LineForm}
+use Rattle.refusal_lines.specs.declared.cause_table.LineForm.TheVariants.{Place, File, Bare}
 
 abbrev pub status_number : Cause → ℕ
 status_number Truncated = 1
@@ -88,43 +88,43 @@ cause_name Usage = codes "Usage"
 cause_name OutOfMemory = codes "OutOfMemory"
 
 -- A: the line tells the file, the place and the offset. B: it tells the file. C: it tells the cause alone.
-abbrev pub class_of : Cause → Class
-class_of Truncated = A
-class_of BadLength = A
-class_of BadTag = A
-class_of BadThrift = A
-class_of MissingField = A
-class_of BadField = A
-class_of BadMagic = A
-class_of BadFooterLength = A
-class_of NotEncrypted = B
-class_of PrefixNeeded = B
-class_of PrefixUnused = B
-class_of PrefixDiffers = B
-class_of FooterKeyMissing = B
-class_of AlgorithmRefused = B
-class_of Unsupported = A
-class_of Mismatch = A
-class_of BadPage = A
-class_of Hidden = B
-class_of NoSuchColumn = B
-class_of BadMaterial = A
-class_of NoMaterial = A
-class_of WrapTag = A
-class_of KeyLength = A
-class_of NotExternal = B
-class_of Denied = B
-class_of ServiceFault = C
-class_of BadPolicy = B
-class_of FileExists = B
-class_of NonceRepeated = B
-class_of BadTable = B
-class_of BadRing = B
-class_of BadKeys = B
-class_of TooLarge = A
-class_of NoFile = B
-class_of ReadFault = C
-class_of WriteFault = C
-class_of RandomFault = C
-class_of Usage = C
-class_of OutOfMemory = C
+abbrev pub line_form : Cause → LineForm
+line_form Truncated = Place
+line_form BadLength = Place
+line_form BadTag = Place
+line_form BadThrift = Place
+line_form MissingField = Place
+line_form BadField = Place
+line_form BadMagic = Place
+line_form BadFooterLength = Place
+line_form NotEncrypted = File
+line_form PrefixNeeded = File
+line_form PrefixUnused = File
+line_form PrefixDiffers = File
+line_form FooterKeyMissing = File
+line_form AlgorithmRefused = File
+line_form Unsupported = Place
+line_form Mismatch = Place
+line_form BadPage = Place
+line_form Hidden = File
+line_form NoSuchColumn = File
+line_form BadMaterial = Place
+line_form NoMaterial = Place
+line_form WrapTag = Place
+line_form KeyLength = Place
+line_form NotExternal = File
+line_form Denied = File
+line_form ServiceFault = Bare
+line_form BadPolicy = File
+line_form FileExists = File
+line_form NonceRepeated = File
+line_form BadTable = File
+line_form BadRing = File
+line_form BadKeys = File
+line_form TooLarge = Place
+line_form NoFile = File
+line_form ReadFault = Bare
+line_form WriteFault = Bare
+line_form RandomFault = Bare
+line_form Usage = Bare
+line_form OutOfMemory = Bare

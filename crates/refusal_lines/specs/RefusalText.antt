@@ -5,9 +5,9 @@ use Rattle.pme_base.specs.declared.place.Place.{Place}
 use Rattle.pme_base.specs.declared.place.PlaceKind.{PlaceKind}
 use Rattle.pme_base.specs.declared.place.PlaceKind.TheVariants.{File, Loose, Footer, ColumnMetaData, DataPage, DictionaryPage, DataPageHeader, DictionaryPageHeader, ColumnIndex, OffsetIndex}
 use Rattle.pme_base.specs.declared.refusal.Refusal.{Refusal}
-use Rattle.refusal_lines.specs.declared.cause_table.Class.{Class}
-use Rattle.refusal_lines.specs.declared.cause_table.Class.TheVariants.{A, B, C}
-use Rattle.refusal_lines.specs.CauseRows.{status_number, cause_name, class_of}
+use Rattle.refusal_lines.specs.declared.cause_table.LineForm.{LineForm}
+use Rattle.refusal_lines.specs.declared.cause_table.LineForm.TheVariants as form
+use Rattle.refusal_lines.specs.CauseRows.{status_number, cause_name, line_form}
 use Rattle.refusal_lines.specs.DetailText.{detail_text, spaced, spaced_pair}
 
 -- the row group and the column of a place, after a space each
@@ -46,15 +46,15 @@ ordinals_text OffsetIndex place = column_text place
 abbrev pub place_text : Place → List ℕ
 place_text place = kind_word place.kind ++ ordinals_text place.kind place
 
--- what a line of this class tells after the cause
-abbrev pub class_text : Class → Refusal → List ℕ → List ℕ
-class_text A refusal subject =
+-- the text of a line after the cause, by its form
+abbrev pub form_text : LineForm → Refusal → List ℕ → List ℕ
+form_text form.Place refusal subject =
     codes " in " ++ subject ++ codes " " ++ place_text refusal.place ++ codes " at " ++ decimal refusal.at ++ detail_text refusal.detail
-class_text B refusal subject = codes " in " ++ subject ++ detail_text refusal.detail
-class_text C refusal subject = []
+form_text form.File refusal subject = codes " in " ++ subject ++ detail_text refusal.detail
+form_text form.Bare refusal subject = []
 
 -- the whole line, with its line feed; `subject` is the name of the file that the refusal is about
 abbrev pub refusal_line : Refusal → List ℕ → List ℕ
 refusal_line refusal subject =
     codes "refused " ++ decimal (status_number refusal.cause) ++ codes " " ++ cause_name refusal.cause
-    ++ class_text (class_of refusal.cause) refusal subject ++ 10 ∷ []
+    ++ form_text (line_form refusal.cause) refusal subject ++ 10 ∷ []

@@ -3,16 +3,18 @@ ghost use Rattle.refusal_lines.specs.CauseRows as rows;
 
 use pme_base::Cause;
 
-/// What a cause's line tells: A the file, the place and the offset; B the file; C nothing but the cause.
-/// Classes A and B also tell the refusal's values.
+/// What the line of a cause has after the number and the name of the cause.
 #[derive(Clone, Copy, Debug, PartialEq, Eq, Drop)]
-pub enum Class {
-    A,
-    B,
-    C,
+pub enum LineForm {
+    /// The file, the place in it, the offset, and the values of the refusal.
+    Place,
+    /// The file, and the values of the refusal.
+    File,
+    /// Nothing.
+    Bare,
 }
 
-/// The number of a cause, which is also the status that the program ends with.
+/// The number of a cause, which is also the exit status of the program.
 pub fn status_number(cause: Cause) -> u8
     ensures { result ≡ rows.status_number cause }
 {
@@ -106,9 +108,9 @@ pub fn cause_name(cause: Cause) -> &'static str
     }
 }
 
-/// The class of a cause.
-pub fn class_of(cause: Cause) -> Class
-    ensures { result ≡ rows.class_of cause }
+/// The form of the line of a cause.
+pub fn line_form(cause: Cause) -> LineForm
+    ensures { result ≡ rows.line_form cause }
 {
     match cause {
         Cause::NotEncrypted
@@ -127,13 +129,13 @@ pub fn class_of(cause: Cause) -> Class
         | Cause::BadTable
         | Cause::BadRing
         | Cause::BadKeys
-        | Cause::NoFile => Class::B,
+        | Cause::NoFile => LineForm::File,
         Cause::ServiceFault
         | Cause::ReadFault
         | Cause::WriteFault
         | Cause::RandomFault
         | Cause::Usage
-        | Cause::OutOfMemory => Class::C,
-        _ => Class::A,
+        | Cause::OutOfMemory => LineForm::Bare,
+        _ => LineForm::Place,
     }
 }

@@ -1,6 +1,5 @@
-// The line that the program prints for a refusal: the number and name of its cause, and what that cause tells
-// of its place, its offset and its values. Small functions add pieces of text to a byte list; the whole line
-// is pinned, byte by byte, by `refusal_line` of `specs/RefusalText.antt`.
+//! The line that the program prints for a refusal: the number and the name of its cause, and by the cause also the
+//! file, the place, the offset and further values. `refusal_line` of `specs/RefusalText.antt` defines every byte.
 #![tactic(auto)]
 
 mod cause_table;
@@ -10,7 +9,7 @@ mod pieces;
 mod place_text;
 mod words;
 
-pub use cause_table::{Class, cause_name, class_of, status_number};
+pub use cause_table::{LineForm, cause_name, line_form, status_number};
 pub use line::refusal_line;
 pub use pieces::{push_decimal, push_hex, push_signed, push_text};
 pub use place_text::push_place;

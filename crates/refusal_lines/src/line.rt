@@ -4,21 +4,21 @@ ghost use Rattle.refusal_lines.specs.CauseRows as rows;
 ghost use Rattle.refusal_lines.specs.DetailText.{detail_text};
 ghost use Rattle.refusal_lines.specs.RefusalText as defined;
 
-use crate::cause_table::{Class, cause_name, class_of, status_number};
+use crate::cause_table::{LineForm, cause_name, line_form, status_number};
 use crate::detail_text::push_detail;
 use crate::pieces::{push_decimal, push_text};
 use crate::place_text::push_place;
 use pme_base::{Bytes, Cause, OutOfMemory, Refusal};
 use std::alloc::Global;
 
-/// The line of a refusal, with its line feed. `subject` is the name of the file that it is about; class C
+/// The line of a refusal, with its line feed. `subject` is the name of the file that it is about; a bare line
 /// leaves it out.
 pub fn refusal_line(alloc: Global, refusal: &Refusal, subject: &[u8]) -> Result<Bytes, OutOfMemory>
     ensures { IfOk result (λ line. line ≡ defined.refusal_line refusal.now subject.now) }
 {
     let mut line = Bytes::new(alloc);
     push_cause(alloc, &mut line, refusal.cause)?;
-    push_class(alloc, &mut line, refusal, subject)?;
+    push_form(alloc, &mut line, refusal, subject)?;
     line.push(b'\n')?;
     Ok(line)
 }
@@ -32,16 +32,16 @@ fn push_cause(alloc: Global, line: &mut Bytes, cause: Cause) -> Result<(), OutOf
     push_text(line, cause_name(cause))
 }
 
-fn push_class(
+fn push_form(
     alloc: Global,
     line: &mut Bytes,
     refusal: &Refusal,
     subject: &[u8],
 ) -> Result<(), OutOfMemory>
-    ensures { OnOk result (line.new ≡ line.old ++ defined.class_text (rows.class_of refusal.now.cause) refusal.now subject.now) }
+    ensures { OnOk result (line.new ≡ line.old ++ defined.form_text (rows.line_form refusal.now.cause) refusal.now subject.now) }
 {
-    match class_of(refusal.cause) {
-        Class::A => {
+    match line_form(refusal.cause) {
+        LineForm::Place => {
             push_subject(line, subject)?;
             push_text(line, " ")?;
             push_place(alloc, line, &refusal.place)?;
@@ -49,11 +49,11 @@ fn push_class(
             push_decimal(alloc, line, refusal.at)?;
             push_detail(alloc, line, &refusal.detail)
         }
-        Class::B => {
+        LineForm::File => {
             push_subject(line, subject)?;
             push_detail(alloc, line, &refusal.detail)
         }
-        Class::C => Ok(()),
+        LineForm::Bare => Ok(()),
     }
 }
 

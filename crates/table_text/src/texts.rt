@@ -12,14 +12,14 @@ use csv::WriterBuilder;
 use itoa::Buffer;
 use parquet_types::{ColumnKind, ColumnSpec, FlatSchema};
 use plain_pages::CellRef;
-use pme_base::{Bytes, OutOfMemory, Rows};
+use pme_base::{Bytes, OutOfMemory, Sequence};
 use std::alloc::Global;
 
 /// Numbers of columns.
-pub type Choice = Rows<usize>;
+pub type Choice = Sequence<usize>;
 
 /// The texts of a record's cells.
-pub type CellTexts = Rows<Bytes>;
+pub type CellTexts = Sequence<Bytes>;
 
 /// Adds the text of a cell of a column to the end of `into`: `true` or `false`, a number in decimal, text with one
 /// more backslash where it begins with one, other bytes as lower-case hex, and `\N` for a null. A refusal leaves

@@ -19,11 +19,12 @@ const KEYS: &[u8] =
 //   absent                       no file
 //   encrypted, signed, counter   a file of `sample_files`
 //   bytes=BYTES                  the bytes of a whole file
-//   seal, sign                   a file with nothing but the footer of `tail_lines`, which is sealed or signed here
+//   seal, sign, bare             a file with nothing but the footer of `tail_lines`, which is sealed, signed or neither here
 // and a SETTING one of
 //   @N=BYTES            these bytes stand in the file from offset N on
 //   prefix=BYTES        the reader supplies this prefix
 //   gcm only            AES_GCM_CTR_V1 is refused
+//   allow plain         an unencrypted file is read too
 //   no keys             no key is found
 //   key refused=CAUSE   the finder refuses each key
 //   NAME=BYTES          this part of the sealed or signed footer is another, or left out where BYTES is empty; the parts
@@ -33,7 +34,8 @@ const KEYS: &[u8] =
 //   under=BYTES         the footer is sealed under this prefix
 //
 // ANSWER is a refusal's cause, place, offset and detail; or of a file that is read the footer's mode, the offset of its
-// area, that of its module or its signature, what associated data begin with, and how many columns and rows there are.
+// area, that of its module or its signature, what associated data begin with (- without encryption), and how many columns
+// and rows there are.
 // Another program worked each out from the format's rules; none was taken from what `read_tail` answered.
 const CASES: &str = "\
 # The file's two ends: it is there, has 12 bytes, and its last four bytes and its first are one magic.
@@ -95,6 +97,27 @@ bytes=PAR1 8c1c28010700 0000 27x00 23000000 PAR1: BadFooterLength Footer 39 Pair
 bytes=PAR1 8c1c28010700 0000 29x00 25000000 PAR1: BadFooterLength Footer 41 Pair(37, 36)
 bytes=PAR1 28006c1c28010700 0000 0a000000 PAR1: BadFooterLength Footer 14 Pair(10, 38)
 signed, @584=00: BadFooterLength Footer 617 Pair(358, 354)
+# An unencrypted footer is read only where that is allowed. It takes no prefix, no key is asked for, and bytes behind it in
+# the area are not read.
+bare, chunk_b=00, chunk_c=00, second_group=193c000000 2604 4402 00: NotEncrypted Footer 0 Nothing
+bare, chunk_b=00, chunk_c=00, second_group=193c000000 2604 4402 00, allow plain: Unencrypted 4 4 - 3 columns 5 rows
+bare, chunk_b=00, chunk_c=00, second_group=193c000000 2604 4402 00, allow plain, gcm only, no keys: Unencrypted 4 4 - 3 columns 5 rows
+bare, chunk_b=00, chunk_c=00, second_group=193c000000 2604 4402 00, allow plain, key refused=WrapTag: Unencrypted 4 4 - 3 columns 5 rows
+bare, chunk_b=00, chunk_c=00, second_group=193c000000 2604 4402 00, allow plain, stop=00 ffff: Unencrypted 4 4 - 3 columns 5 rows
+bare, chunk_b=00, chunk_c=00, second_group=193c000000 2604 4402 00, allow plain, prefix=70: PrefixUnused Footer 0 Nothing
+bare, chunk_b=00, chunk_c=00, second_group=193c000000 2604 4402 00, allow plain, prefix=: PrefixUnused Footer 0 Nothing
+bare, chunk_b=00, chunk_c=00, second_group=193c000000 2604 4402 00, allow plain, rows=160c, prefix=70: PrefixUnused Footer 0 Nothing
+bytes=PAR1 00 01000000 PAR1, allow plain: MissingField Footer 0 Field(FileMetaData, 2)
+bytes=PAR1 00000000 PAR1, allow plain: BadThrift Footer 0 Thrift(End)
+# No column chunk of an unencrypted file is encrypted; that is judged after all other rules.
+bare, allow plain: BadField Footer 0 Field(ColumnChunk, 8)
+bare, chunk_b=00, chunk_c=00, allow plain: BadField Footer 0 Field(ColumnChunk, 8)
+bare, allow plain, rows=160c: Mismatch Footer 0 Signed(5, 6)
+# Files with an encrypted or signed footer are read as without that.
+encrypted, allow plain: Encrypted 259 278 5feceb66ffc86f38 3 columns 4 rows
+sign, allow plain: Signed 4 111 0001020304050607 3 columns 5 rows
+signed, @584=00, allow plain: BadFooterLength Footer 617 Pair(358, 354)
+counter, gcm only, allow plain: AlgorithmRefused Footer 0 Nothing
 # The algorithm.
 counter, gcm only: AlgorithmRefused Footer 0 Nothing
 counter, gcm only, prefix=7461626c65: AlgorithmRefused Footer 0 Nothing
@@ -328,7 +351,10 @@ seal, footer=1504193c35001806736368656d611504001504250018026174251435021c8c111c2
 fn shown(alloc: Global, read: Result<Tail, Refusal>) -> Result<String, Fail> {
     match read {
         Ok(tail) => {
-            let aad = hex::encode(alloc, tail.file_aad.joined())?;
+            let aad = match &tail.protection {
+                Some(protection) => hex::encode(alloc, protection.file_aad.joined())?,
+                None => String::from_str(alloc, "-")?,
+            };
             let columns = tail.footer.schema.len();
             let rows = tail.footer.num_rows;
             Ok(format!(in alloc;
@@ -352,6 +378,7 @@ fn told_by<K: KeyFinder>(
 ) -> Result<String, Fail> {
     let options = ReadOptions {
         gcm_only: setting(line, "gcm only").is_some(),
+        allow_plain: setting(line, "allow plain").is_some(),
         module_limit: 16_777_216,
     };
     let supplied = match setting(line, "prefix") {

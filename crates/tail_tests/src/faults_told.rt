@@ -1,14 +1,16 @@
 // What is told where reading or a finder of keys fails, and the metadata of the footer's key.
 use crate::failing_finder::FailingFinder;
 use crate::sample_files::{COUNTER, ENCRYPTED, SIGNED, bytes_of};
+use crate::tail_lines::spelled;
 use footer_modes::{ReadOptions, footer_key_metadata, read_tail};
-use pme_base::{Bytes, Cause, MemFiles, plain_refusal};
+use pme_base::{Bytes, Cause, Detail, MemFiles, Place, plain_refusal, refusal_at};
 use std::test::Fail;
 
 #[test]
 fn faults_are_told_as_such(rt: HostRuntime) -> Result<(), Fail> {
     let options = ReadOptions {
         gcm_only: false,
+        allow_plain: true,
         module_limit: 0,
     };
     let file = bytes_of(rt.alloc(), ENCRYPTED)?;
@@ -38,5 +40,12 @@ fn the_metadata_of_the_key_need_no_key(rt: HostRuntime) -> Result<(), Fail> {
     }
     let refused = footer_key_metadata(rt.alloc(), &mut files, "g").err();
     assert_eq!(rt; refused, Some(plain_refusal(Cause::NoFile)));
+    files.store(
+        "f",
+        spelled(rt.alloc(), "PAR1 00 01000000 PAR1")?.as_slice(),
+    )?;
+    let refused = footer_key_metadata(rt.alloc(), &mut files, "f").err();
+    let unencrypted = refusal_at(Cause::NotEncrypted, Place::footer(), 0, Detail::Nothing);
+    assert_eq!(rt; refused, Some(unencrypted));
     Ok(())
 }

@@ -1,4 +1,5 @@
-// Tests of the tail of a file, read and written. They stand here so that `footer_modes` isn't proved again for them.
+//! Tests of the tail of a file, read and written. They have a crate of their own, so that `footer_modes` isn't proved again
+//! for them.
 #![tactic(auto)]
 
 #[cfg(test)]
@@ -6,6 +7,8 @@ mod damaged_tails;
 mod failing_finder;
 #[cfg(test)]
 mod faults_told;
+#[cfg(test)]
+mod footer_bytes;
 mod refusing_finder;
 #[cfg(test)]
 mod sample_files;

@@ -51,8 +51,8 @@ metadata=18026b66
 
 // The names of files and settings beside the names of the footer's parts.
 const SETTINGS: &str = "\
-absent, encrypted, signed, counter, bytes, seal, sign,
-prefix, gcm only, no keys, key refused,
+absent, encrypted, signed, counter, bytes, seal, sign, bare,
+prefix, gcm only, allow plain, no keys, key refused,
 stop, footer, front, under";
 
 /// The name and the value of a setting.
@@ -195,6 +195,17 @@ fn signed(alloc: Global, line: &str) -> Result<Bytes, Fail> {
     Ok(file)
 }
 
+/// A file that holds nothing but its footer in plain, without a signature.
+fn bare(alloc: Global, line: &str) -> Result<Bytes, Fail> {
+    let footer = footer_of(alloc, line, "")?;
+    let mut file = Bytes::copy_of(alloc, b"PAR1")?;
+    let size = u32::try_from(footer.len()).ok().ok_or("size")?;
+    file.extend(footer.as_slice())?;
+    file.extend(&size.to_le_bytes())?;
+    file.extend(b"PAR1")?;
+    Ok(file)
+}
+
 fn unchanged(alloc: Global, line: &str) -> Result<Bytes, Fail> {
     let (first, _) = line.split_once(',').unwrap_or((line, ""));
     match first {
@@ -203,6 +214,7 @@ fn unchanged(alloc: Global, line: &str) -> Result<Bytes, Fail> {
         "counter" => bytes_of(alloc, COUNTER),
         "seal" => sealed(alloc, line),
         "sign" => signed(alloc, line),
+        "bare" => bare(alloc, line),
         _ => spelled(alloc, setting(line, "bytes").ok_or("file")?),
     }
 }

@@ -1,5 +1,6 @@
 -- Bytes begin with a spelling, or have one fault: reading has one answer, and tells which.
 use Rattle.std.proofs.Common.{◌≡◌, ◌⊎◌, inl, inr, ℕ, List, refl, ap, ◌∙◌, Result, Ok, Err}
+use Rattle.pme_base.proofs.Chain.{not_both}
 use Rattle.thrift_compact.specs.declared.kind.TKind.{TKind}
 use Rattle.thrift_compact.specs.Tree.{Tree}
 use Rattle.thrift_compact.specs.Reading.{Fault, value}
@@ -19,9 +20,6 @@ judged_by room k bytes (Err f) each refused = inr (f, told room k bytes f each r
 pub judged : (room : ℕ) (k : TKind) (bytes : List ℕ) → AreBytes bytes
     → ((t : Tree) × (rest : List ℕ) × BeginsWith room k t bytes rest) ⊎ ((f : Fault) × Faults room k bytes f)
 judged room k bytes each = judged_by room k bytes (value room k bytes) each refl
-
-not_both : {S E : Type 0} (r : Result S E) (x : S) (f : E) → r ≡ Ok x → r ≡ Err f → ⊥
-not_both r x f one two = cc
 
 pub never_both : (room : ℕ) (k : TKind) (t : Tree) (bytes rest : List ℕ) (f : Fault) → BeginsWith room k t bytes rest → Faults room k bytes f → ⊥
 never_both room k t bytes rest f (front, spelled, parts) fault =

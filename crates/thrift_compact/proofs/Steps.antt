@@ -2,11 +2,11 @@
 use Rattle.std.proofs.Common.{◌≡◌, ◌⊎◌, inl, inr, ℕ, ◌<◌, ◌≤◌, Bool, true, false, nat_lt, ◌==◌, if◌then◌else◌, refl, arith, Result, Ok, Err}
 use Rattle.std.proofs.lemmas.Bool.Decides.{nat_tests}
 use Rattle.pme_base.specs.Steps.{◌>>=◌}
+use Rattle.pme_base.proofs.Chain.{bind_ok}
 
 -- the value of a step that went well, and what came of it
 pub after_ok : {S T E : Type 0} (G : Type 0) (r : Result S E) (f : S → Result T E) (t : T) → (r >>= f) ≡ Ok t → ((s : S) → r ≡ Ok s → f s ≡ Ok t → G) → G
-after_ok G (Ok s) f t e more = more s refl e
-after_ok G (Err x) f t e more = cc
+after_ok G r f t e more = let (s, was, after) = bind_ok r f t e in more s was after
 
 pub one_refusal : {S E : Type 0} (r : Result S E) (x y : E) → r ≡ Err x → r ≡ Err y → y ≡ x
 one_refusal r x y e f = cc

@@ -5,4 +5,4 @@ use Rattle.footer_modes.proofs.reader.footer_key_metadata.Goals as goal
 
 pub returns-clause-answer : goal.returns-clause-answer
 returns-clause-answer g c =
-    of_told (λ e a. defined.area_metadata e.mode e.data_end a) defined.file_key_metadata (λ bytes. refl) _ _ _ _ _ c.in_ok-ends.ensures.answer c.in_ok-ends.ensures.inside (rw c.in_ok-ends.ensures.published at c.in_ok-area.ensures.told) (rw c.as_slice.ensures.value at c.area_metadata.ensures.answer)
+    of_told (λ e a. defined.area_metadata e.magic e.data_end a) defined.file_key_metadata (λ bytes. refl) _ _ _ _ _ c.in_ok-ends.ensures.answer c.in_ok-ends.ensures.inside (rw c.in_ok-ends.ensures.published at c.in_ok-area.ensures.answered) (rw c.as_slice.ensures.value at c.area_metadata.ensures.answer)

@@ -1,5 +1,5 @@
 use Rattle.std.proofs.Common.{rules, ◌≡◌, ◌+◌, ◌≤◌, length, ◌∙◌, arith}
-use Rattle.pme_base.proofs.ReadSteps.{more_told}
+use Rattle.pme_base.proofs.ReadSteps.{more_read}
 use Rattle.pme_base.proofs.reading.read_full.Goals as goal
 
 pub loop-done-preserved : goal.loop-done-preserved
@@ -14,5 +14,5 @@ loop-done-preserved g c =
       pending = step.pending ∙ before.pending;
       given = record { least = omega (arith, before.given.least, before.given.most, step.given); most = omega (arith, before.given.most, step.given) };
       later = omega (arith, before.later, step.cause.later);
-      told = more_told _ _ _ _ _ _ _ _ before.within fits here before.told (rw before.published at step.told);
+      read_so_far = more_read _ _ _ _ _ _ _ _ before.within fits here before.read_so_far (rw before.published at step.answered);
     }

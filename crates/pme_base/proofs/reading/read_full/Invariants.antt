@@ -10,7 +10,7 @@ invariant-loop-done g l = let files = g.F.Files in record {
   pending : files.pending l.files ≡ files.pending l.fn.files;
   given : RoseBy l.done (files.given l.fn.files) (files.given l.files);
   later : files.faults l.fn.files ≤ files.faults l.files;
-  told : IfSome (files.published l.fn.files) (λ told. IsReadSoFar (bytes_of told l.name) l.at l.done l.into);
+  read_so_far : IfSome (files.published l.fn.files) (λ published. IsReadSoFar (bytes_of published l.name) l.at l.done l.into);
 }
 
 abbrev pub decreases-loop-done : goal.decreases-loop-done

@@ -1,0 +1,4 @@
+pub mod Cases
+pub mod Prints
+pub mod SmallFiles
+pub mod TextAnswers

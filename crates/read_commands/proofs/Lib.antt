@@ -1,0 +1,5 @@
+pub mod Openings
+pub mod Plaintexts
+pub mod Structs
+pub mod Tails
+pub mod Columns

@@ -1,0 +1,10 @@
+use Rattle.std.proofs.Common.{◌≡◌, ◌++◌, length}
+use Rattle.read_commands.specs.TailText.{column_lines}
+use Rattle.read_commands.proofs.tail_text.push_columns.Given as goal
+
+-- the lines of the columns that are left complete the text
+abbrev pub invariant-loop-rest : goal.invariant-loop-rest
+invariant-loop-rest l = l.text ++ column_lines l.rest ≡ l.fn.text ++ column_lines l.columns
+
+abbrev pub decreases-loop-rest : goal.decreases-loop-rest
+decreases-loop-rest l = length l.rest
