@@ -1,4 +1,4 @@
--- Blocks within vectors.
+-- Lemmas about the four blocks of a vector.
 use Rattle.std.proofs.Common.{◌≡◌, ℕ, zero, suc, ◌+◌, ◌-◌, ◌*◌, ◌/◌, ◌%◌, ◌<◌, Bool, true, false, cond, T, ◌&&◌, ◌||◌, leb, ltb, List, [], ◌∷◌, ◌++◌, map, length, get_or, refl, sym, ap, ◌∙◌, arith, w8, ltb-true}
 use Rattle.std.proofs.lemmas.List.{ext_get_or, get_or-map, length-map, get_or_append_left, get_or-append_right, length-append}
 use Rattle.std.proofs.lemmas.Simd.{Each1-get_or, Each1-from_get_or, SwzOk-from_Each1, SwzOk-from_below, SwzOk, swz_l, length-swz_l, get_or-swz_l, get_or-swz_l_below, pick_l_left, pick_l_whole, get_or-chunk, length-chunk}
@@ -7,7 +7,7 @@ use Rattle.std.specs.Simd.Lanes.{Each1, pick_l, all_below}
 use Rattle.aes_block.specs.FourBlocks.{lane_block, four_times}
 use Rattle.aes_block.specs.HalfBytes.{IsIndex, found}
 
--- ---- the same block four times
+-- ---- four copies of a block
 
 pub length-four_times : (t : List ℕ) → length t ≡ 16 → length (four_times t) ≡ 64
 length-four_times t long = omega (arith, length-append t (t ++ (t ++ t)), length-append t (t ++ t), length-append t t)

@@ -1,11 +1,11 @@
--- What is done to each byte of a vector, and tests over all bytes.
+-- Bytewise maps over vectors, and tests over all 256 bytes.
 use Rattle.std.proofs.Common.{◌≡◌, ℕ, ◌<◌, Bool, true, T, ◌||◌, eqb, leb, ltb, List, [], ◌∷◌, map, refl, sym, ap, subst, ◌∙◌, w8, Fits, eqb-true}
 use Rattle.std.proofs.lemmas.Bool.{agree_below, agree_below_at}
 use Rattle.std.proofs.lemmas.Simd.{map-map}
 use Rattle.std.specs.Simd.Lanes.{Each1}
 use Rattle.aes_block.specs.HalfBytes.{IsIndex}
 
--- a test that holds of each byte
+-- a test that is true for every byte
 abbrev pub of_all_bytes : (ℕ → Bool) → Bool
 of_all_bytes p = agree_below p (λ _. true) 256
 
@@ -29,6 +29,6 @@ all_indices f (x ∷ xs) all fits = (subst T (sym (at_byte (is_index f) x all fi
 pub indices_of : (f : ℕ → ℕ) (v js : List ℕ) → js ≡ map f v → of_all_bytes (is_index f) ≡ true → Each1 (Fits w8) v → Each1 IsIndex js
 indices_of f v js is all fits = subst (Each1 IsIndex) (sym is) (all_indices f v all fits)
 
--- bytes that were made of bytes that were made of those of v
+-- a composition of two bytewise maps over v
 pub mapped : (f g : ℕ → ℕ) (v js r : List ℕ) → r ≡ map f js → js ≡ map g v → r ≡ map (λ x. f (g x)) v
 mapped f g v js r e is = e ∙ ap (map f) is ∙ map-map f g v

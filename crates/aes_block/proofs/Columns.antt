@@ -1,4 +1,4 @@
--- A round over the other basis, byte by byte.
+-- A round over the other basis equals the standard round, byte by byte.
 use Rattle.std.proofs.Common.{◌≡◌, ℕ, ◌+◌, ◌<◌, true, eqb, ltb, List, [], ◌∷◌, map, length, get_or, refl, sym, ap, subst, ◌∙◌, arith, bit_xor, ltb-true}
 use Rattle.std.specs.Int.Bits.{xor_assoc, xor_comm, xor_zero_r}
 use Rattle.std.specs.List.{range_with_len}
@@ -13,7 +13,7 @@ use Rattle.pme_terms.specs.Polynomials.{product_below}
 use Rattle.aes_block.proofs.Bytes.{of_all_bytes, at_byte, same_byte}
 use Rattle.aes_block.proofs.Sboxes.{substituted, is_sbox}
 
--- ---- the laws of the bytes, computed over all of them
+-- ---- laws of bytes, checked by computation for all 256
 
 abbrev adds : ℕ → ℕ → Type 0
 adds a b = basis (bit_xor a b) ≡ bit_xor (basis a) (basis b)
@@ -49,7 +49,7 @@ thrice : of_all_bytes (λ x. eqb (bit_xor (affine_once (basis x)) (affine_twice 
 unfolding field_mul folded product_below
 thrice = refl
 
--- what is known of the byte x of the state
+-- the laws for a byte x of the state
 record Substituted (x : ℕ) : Type 0 where
   pub small : sbox x < 256
   pub small_twice : field_mul 2 (sbox x) < 256
@@ -87,7 +87,7 @@ paired_sum p q r s =
     ∙ ap (bit_xor p) (sym (xor_assoc q r s) ∙ ap (λ n. bit_xor n s) (xor_comm q r) ∙ xor_assoc r q s)
     ∙ sym (xor_assoc p r (bit_xor q s))
 
--- the constants of the affine map are gone from a sum
+-- the constants of the affine map cancel in a XOR
 sum_is : (a b c d k : ℕ)
     → bit_xor (bit_xor (bit_xor (bit_xor a (basis 0xc6)) (bit_xor b (basis 0xa5))) (bit_xor (bit_xor c (basis 0x63)) (bit_xor d (basis 0x63)))) (bit_xor k (basis 0x63))
     ≡ bit_xor (bit_xor (bit_xor a b) (bit_xor c d)) k
@@ -134,7 +134,7 @@ mixed_is a b c d k m la lb lc ld lk same =
 abbrev at : List ℕ → List ℕ → List ℕ
 at s ks = map (λ k. get_or s k 0) ks
 
--- what `round` makes of a block
+-- the block that `round` gives
 abbrev pub round_over : List ℕ → List ℕ → List ℕ
 round_over v key =
     zip2 bit_xor (zip2 bit_xor
@@ -148,7 +148,7 @@ record Bytes (s : List ℕ) : Type 0 where
 byte : (s : List ℕ) → Bytes s → (j : ℕ) → j < 16 → get_or s j 0 < 256
 byte s h j lt = Each1-get_or IsByte s j 0 (let e = h.long in omega arith) h.bytes
 
--- the column of the bytes a, b, c and d, for the key's bytes from j on
+-- the column with bytes a, b, c and d, with the key's bytes from index j on
 column : (s key : List ℕ) → Bytes s → Bytes key → (a b c d j : ℕ) → a < 16 → b < 16 → c < 16 → d < 16 → j + 3 < 16
     → let x = λ (n : ℕ). get_or s n 0 in let k = λ (n : ℕ). get_or key n 0 in let S = λ (n : ℕ). sbox (x n) in
     Is (mixed (x a) (x b) (x c) (x d) (k j)) (bit_xor (bit_xor (bit_xor (field_mul 2 (S a)) (field_mul 3 (S b))) (bit_xor (S c) (S d))) (k j))
@@ -189,7 +189,7 @@ round_over_is s k ls lk bs bk =
     subst (λ s. IsState (round_over (map basis s) (map inner_key k)) (round s k)) (pick_l_whole 0 s 16 ls)
     (subst (λ k. IsState (round_over (map basis (listed s)) (map inner_key k)) (round (listed s) k)) (pick_l_whole 0 k 16 lk) both)
 
--- ---- the last round
+-- ---- the final round
 
 last : (s key : List ℕ) → Bytes s → (j n : ℕ) → j < 16
     → bit_xor (affine (basis (get_or s j 0))) (bit_xor (get_or key n 0) 0x63) ≡ bit_xor (sbox (get_or s j 0)) (get_or key n 0)

@@ -1,4 +1,4 @@
--- The S-box by look-ups of half bytes, byte by byte.
+-- The S-box by look-ups of half bytes equals the standard S-box, checked for every byte.
 use Rattle.std.proofs.Common.{◌≡◌, ℕ, true, refl, bit_xor, eqb}
 use Rattle.aes_block.specs.Basis.{basis, affine}
 use Rattle.aes_block.specs.Field.{field_mul, folded, sbox, inverse, inverse_below, affine_bit}

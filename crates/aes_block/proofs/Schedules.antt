@@ -1,4 +1,4 @@
--- The key schedule, word by word.
+-- Lemmas about the key schedule, word by word.
 use Rattle.std.proofs.Common.{◌≡◌, inl, inr, ℕ, zero, suc, ◌+◌, ◌-◌, ◌*◌, ◌/◌, ◌%◌, ◌<◌, ◌≤◌, ◌&&◌, ◌==◌, nat_lt, if◌then◌else◌, List, [], ◌∷◌, ◌++◌, map, length, get_or, take, drop, refl, sym, ap, ◌∙◌, arith, bit_xor}
 use Rattle.std.specs.Int.Bits.{xor_zero_r}
 use Rattle.std.specs.List.{range_with_len}
@@ -14,7 +14,7 @@ use Rattle.aes_block.specs.Field.{field_mul, folded, sbox}
 use Rattle.aes_block.specs.declared.expansion.TheConstants.{ROUND_CONSTANTS}
 use Rattle.pme_terms.specs.Polynomials.{product_below}
 
--- a key of n bytes
+-- the sizes that belong to a key of n bytes
 pub record Words (n : ℕ) : Type 0 where
   pub whole : 4 * (n / 4) ≡ n
   pub at_least : 4 ≤ n / 4
@@ -29,7 +29,7 @@ words_of n h = elim h [
   ]
 ]
 
--- ---- a part of the first m bytes
+-- ---- slices of the first m bytes
 
 pub part-take : (k a m : ℕ) (w : List ℕ) → a + k ≤ m → take k (drop a (take m w)) ≡ take k (drop a w)
 part-take k a m w le =
@@ -81,7 +81,7 @@ first_term nk i previous s four start positive few is =
     (λ j. bit_xor (get_or (is j) 0 0) (constant j) ∷ added (get_or (is j) 1 0) j ∷ added (get_or (is j) 2 0) j ∷ added (get_or (is j) 3 0) j ∷ [])
     ∙ (λ j. term (sym start j) (sym listed j))
 
--- ---- the cipher reads no more of the schedule than its keys
+-- ---- the cipher uses only the round keys of the schedule
 
 state_after-take : (w block : List ℕ) (m r : ℕ) → 16 * r + 16 ≤ m → state_after (take m w) block r ≡ state_after w block r
 unfolding state_after

@@ -1,4 +1,4 @@
--- What is done to a vector is done to each of its blocks.
+-- An operation on a vector acts on each of its blocks.
 use Rattle.std.proofs.Common.{◌≡◌, ℕ, zero, suc, ◌*◌, List, [], ◌∷◌, ◌<◌, get_or, map, take, drop, refl, sym, ap, ◌∙◌, bit_xor, w8, Fits}
 use Rattle.std.proofs.lemmas.List.{take-map, drop-map}
 use Rattle.std.proofs.Math.Facts.{Fits-of_lt}

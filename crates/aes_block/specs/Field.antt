@@ -1,18 +1,18 @@
--- The field of AES (FIPS 197, section 4): its elements are bytes, as polynomials over bits of degree below 8,
--- modulo x^8 + x^4 + x^3 + x + 1. Their sum is `bit_xor`.
+-- The field of AES (FIPS 197, section 4). Its elements are bytes: polynomials over bits of degree below 8, modulo
+-- x^8 + x^4 + x^3 + x + 1. Addition is `bit_xor`.
 use Rattle.std.specs.Prelude.{ℕ, zero, suc, ◌+◌, ◌/◌, ◌%◌, bit_xor, ◌==◌, if◌then◌else◌}
 use Rattle.std.specs.Int.{bit_at}
 use Rattle.pme_terms.specs.Polynomials.{product_below, number_below}
 
--- a polynomial of degree below 16 with x^8 replaced by x^4 + x^3 + x + 1, once
+-- one reduction step for a polynomial of degree below 16: x^8 is replaced by x^4 + x^3 + x + 1
 unfoldable pub folded : ℕ → ℕ
 folded p = bit_xor (p % 256) (product_below (p / 256) 0x1b 8)
 
--- the product of two bytes (4.2): the first folding leaves a degree below 12, and the second one below 8
+-- the product of two bytes (4.2): the first reduction step gives a degree below 12, the second one a degree below 8
 unfoldable pub field_mul : ℕ → ℕ → ℕ
 field_mul a b = folded (folded (product_below a b 8))
 
--- the first of the bytes below n whose product with a is 1, and 0 if there is none
+-- a byte below n whose product with a is 1, or 0 if there is none
 unfoldable pub inverse_below : ℕ → ℕ → ℕ
 inverse_below a zero = 0
 inverse_below a (suc n) = let rest = inverse_below a n in if field_mul a n == 1 then n else rest

@@ -1,10 +1,10 @@
--- A vector of 64 bytes as four blocks.
+-- Vectors of 64 bytes as four blocks of 16 bytes.
 use Rattle.std.specs.Prelude.{ℕ, ◌*◌, List, ◌++◌, take, drop}
 
--- block b of the four
+-- block number b of a vector
 abbrev pub lane_block : List ℕ → ℕ → List ℕ
 lane_block v b = take 16 (drop (16 * b) v)
 
--- the same block four times
+-- four copies of a block
 abbrev pub four_times : List ℕ → List ℕ
 four_times block = block ++ (block ++ (block ++ block))

@@ -1,4 +1,5 @@
--- What a key keeps: its bytes and after them the rest of the key schedule, and the same as the rounds take it.
+-- The invariant of an AesKey: `round_keys` starts with the key's schedule, and `inner_keys` holds the same round keys over
+-- the other basis.
 use Rattle.std.specs.Prelude.{◌≡◌, ◌+◌, ◌*◌, map, take}
 use Rattle.aes_block.specs.Aes.{IsKeyLength, schedule}
 use Rattle.aes_block.specs.Basis.{inner_key}

@@ -1,13 +1,13 @@
--- The example vectors of FIPS 197, appendix C: one block under a key of each length.
+-- The example vectors of FIPS 197, appendix C: one block, encrypted with a key of each length.
 use Rattle.std.specs.Prelude.{ℕ, List}
 use Rattle.std.specs.Int.{to_be_bytes, w128}
 use Rattle.std.specs.List.{range_with_len}
 
--- 00 11 22 .. ff
+-- the bytes 00 11 22 .. ff
 abbrev pub example_block : List ℕ
 example_block = to_be_bytes w128 0x00112233445566778899aabbccddeeff
 
--- 00 01 02 .., n bytes
+-- the n bytes 00 01 02 ..
 abbrev pub example_key : ℕ → List ℕ
 example_key n = range_with_len 0 n
 

@@ -1,4 +1,4 @@
-// The key schedule (FIPS 197, 5.2).
+// The key schedule (FIPS 197, section 5.2).
 ghost use Rattle.std.specs.Prelude.{◌≡◌, ◌<◌, ◌≤◌, ◌+◌, ◌*◌, ◌/◌, map, length, take};
 ghost use Rattle.aes_block.specs.Aes.{IsKeyLength, schedule, schedule_term, word, next_word};
 ghost use Rattle.aes_block.specs.Field.{sbox};
@@ -6,9 +6,10 @@ ghost use Rattle.aes_block.specs.Field.{sbox};
 use crate::substitution::sub_bytes;
 use std::simd::prelude::*;
 
-// The powers of x.
+// The round constants: powers of x in the field of AES.
 const ROUND_CONSTANTS: [u8; 10] = [0x01, 0x02, 0x04, 0x08, 0x10, 0x20, 0x40, 0x80, 0x1b, 0x36];
 
+// SubWord: the S-box of each byte.
 fn sub_word(word: [u8; 4]) -> [u8; 4]
     ensures { result ≡ map sbox word }
 {
@@ -18,7 +19,7 @@ fn sub_word(word: [u8; 4]) -> [u8; 4]
     [lanes[0], lanes[1], lanes[2], lanes[3]]
 }
 
-// What is added to the word `key_words` before word i.
+// The term that is XORed with word i - key_words to give word i; `previous` is word i - 1.
 fn term(key_words: usize, i: usize, previous: [u8; 4]) -> [u8; 4]
     requires positive { 0 < key_words }
     requires few { (0 < i / key_words) × (i / key_words ≤ 10) }
@@ -43,11 +44,11 @@ fn word_at(words: &[u8; 240], i: usize) -> [u8; 4]
     [words[at], words[at + 1], words[at + 2], words[at + 3]]
 }
 
-// Word i of the schedule, from those before it.
+// Word i of the schedule, from the words before it.
 fn next(words: &[u8; 240], key_words: usize, i: usize) -> [u8; 4]
     requires positive { 0 < key_words }
     requires after { key_words ≤ i }
-    requires room { i < 60 }
+    requires inside { i < 60 }
     requires few { i / key_words ≤ 10 }
     ensures { result ≡ next_word key_words words.now i }
 {
@@ -56,7 +57,7 @@ fn next(words: &[u8; 240], key_words: usize, i: usize) -> [u8; 4]
     [a ^ e, b ^ f, c ^ g, d ^ h]
 }
 
-// The schedule of a key, and zeros after it.
+// The schedule of a key, padded with zeros to the length of the longest schedule.
 pub(crate) fn expand(bytes: &[u8]) -> [u8; 240]
     requires { IsKeyLength (length bytes.now) }
     ensures key { take (length bytes.now) result ≡ bytes.now }

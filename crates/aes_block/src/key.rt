@@ -1,4 +1,4 @@
-// A key, expanded.
+// AES keys with their key schedules.
 ghost use Rattle.std.specs.Prelude.{◌≡◌, ◌↔◌, ◌<◌, ℕ, length, IsOk, IfOk};
 ghost use Rattle.aes_block.specs.Aes.{aes, IsKeyLength};
 ghost use Rattle.aes_block.specs.FourBlocks.{lane_block};
@@ -10,18 +10,18 @@ use std::marker::Model;
 use std::simd::prelude::*;
 use thiserror::Error;
 
-/// A key has another length than 16, 24 or 32 bytes.
+/// The error for a key whose length is not 16, 24 or 32 bytes.
 #[derive(Clone, Copy, Debug, PartialEq, Eq, Drop, Error)]
 #[error("BadKeyLength")]
 pub struct BadKeyLength;
 
-/// A key of AES. Contracts see it as the list of its bytes.
+/// An AES key. Contracts see it as the list of its bytes.
 #[derive(Drop)]
 pub struct AesKey {
     key_length: usize,
-    // The key schedule, which begins with the key.
+    // The key schedule, whose first bytes are the key itself.
     round_keys: [u8; 240],
-    // The same over the basis in which the rounds before the last are.
+    // The round keys over the basis in which all rounds but the last are computed.
     inner_keys: [u8; 240],
 }
 
@@ -38,7 +38,7 @@ impl Model for AesKey {
 }
 
 impl AesKey {
-    /// The key of these bytes, whose number must be 16, 24 or 32 (FIPS 197, section 5).
+    /// Expands a key of 16, 24 or 32 bytes (FIPS 197, section 5). Any other length gives BadKeyLength.
     pub fn new(bytes: &[u8]) -> Result<AesKey, BadKeyLength>
         ensures accepted { IsOk result ↔ IsKeyLength (length bytes.now) }
         ensures key { IfOk result (λ key. key ≡ bytes.now) }
@@ -63,7 +63,7 @@ impl AesKey {
         &self.round_keys[..self.key_length]
     }
 
-    /// A copy of the key. Its schedule is copied too and not made anew.
+    /// A copy of the key with its schedule, which is not computed again.
     pub fn copy(&self) -> AesKey
         ensures { result ≡ self.now }
     {
@@ -74,7 +74,7 @@ impl AesKey {
         }
     }
 
-    /// The cipher of FIPS 197 of one block. It takes the time that four blocks take.
+    /// Encrypts one block (FIPS 197, section 5.1). This takes as long as encrypting four blocks.
     pub fn encrypt_block(&self, block: [u8; 16]) -> [u8; 16]
         ensures { result ≡ aes self.now block }
     {
@@ -82,7 +82,7 @@ impl AesKey {
         blocks.extract::<0, 16>().to_array()
     }
 
-    /// The same of four blocks, each in its place. The first block is lanes 0 to 15.
+    /// Encrypts four blocks at once. Lanes 0 to 15 are the first block.
     #[inline(always)]
     pub fn encrypt_four(&self, blocks: u8x64) -> u8x64
         ensures { (b : ℕ) → b < 4 → lane_block result b ≡ aes self.now (lane_block blocks b) }

@@ -1,8 +1,8 @@
-// AES by FIPS 197: a key of 16, 24 or 32 bytes, and blocks of 16 bytes under it.
-//
-// Four blocks lie in a vector of 64 bytes, one after the other, and go through the rounds together. No memory is
-// read at a place that depends on the key or on a block: the S-box is computed by look-ups of half bytes within
-// vectors (Hamburg, "Accelerating AES with vector permute instructions", 2009).
+//! The AES block cipher (FIPS 197) with keys of 16, 24 and 32 bytes.
+//!
+//! Four blocks are encrypted together in a vector of 64 bytes. No memory address depends on the key or on a block: the
+//! S-box is computed by look-ups of half bytes within vectors (Hamburg, "Accelerating AES with vector permute
+//! instructions", 2009).
 #![tactic(auto)]
 
 ghost use Rattle.std.specs.Prelude.{◌≡◌};
@@ -17,7 +17,7 @@ mod substitution;
 
 pub use key::{AesKey, BadKeyLength};
 
-/// The law that `aes` of the contracts gives the example vectors of FIPS 197, appendix C.
+/// The definition `aes` gives the example vectors of FIPS 197, appendix C.
 pub fn standard_vectors()
     ensures aes_128 { aes (example_key 16) example_block ≡ example_128 }
     ensures aes_192 { aes (example_key 24) example_block ≡ example_192 }

@@ -1,8 +1,8 @@
-// The S-box (FIPS 197, 5.1.1) of each byte of a vector.
+// The S-box (FIPS 197, section 5.1.1), applied to each byte of a vector.
 //
-// A byte is written over a basis in which it is a pair of elements i and k of the field of sixteen elements, and
-// its inverse needs inverses in that field only. The inverse of 0 is written 128, for infinity: a sum of it and a half
-// byte is 128 or more, and a look-up finds 0 there.
+// Over another basis a byte is a pair of elements i and k of the field with 16 elements, and its inverse can be computed
+// with inverses in that field. The inverse of 0 is represented by 128, for infinity: the XOR of 128 and a half byte is at
+// least 128, where a look-up gives 0.
 ghost use Rattle.std.specs.Prelude.{◌≡◌, ◌/◌, ◌%◌, map};
 ghost use Rattle.std.specs.Simd.Lanes.{Each1};
 ghost use Rattle.aes_block.specs.Basis.{basis, high_index, low_index, affine, affine_once, affine_twice};
@@ -12,7 +12,7 @@ ghost use Rattle.aes_block.specs.HalfBytes.{IsIndex};
 use crate::lanes::look_up;
 use std::simd::prelude::*;
 
-// The byte over the other basis, by its low and its high half.
+// The change to the other basis, for the low and the high half of a byte.
 const BASIS_LOW: [u8; 16] = [
     0x00, 0x70, 0x2a, 0x5a, 0x98, 0xe8, 0xb2, 0xc2, 0x08, 0x78, 0x22, 0x52, 0x90, 0xe0, 0xba, 0xca,
 ];
@@ -21,7 +21,7 @@ const BASIS_HIGH: [u8; 16] = [
     0x00, 0x4d, 0x7c, 0x31, 0x7d, 0x30, 0x01, 0x4c, 0x81, 0xcc, 0xfd, 0xb0, 0xfc, 0xb1, 0x80, 0xcd,
 ];
 
-// The inverse of a half byte, and a constant times it.
+// The inverse of a half byte, and the inverse multiplied by a constant.
 const INVERSE: [u8; 16] = [
     0x80, 0x01, 0x08, 0x0d, 0x0f, 0x06, 0x05, 0x0e, 0x02, 0x0c, 0x0b, 0x0a, 0x09, 0x03, 0x07, 0x04,
 ];
@@ -30,8 +30,8 @@ const INVERSE_SCALED: [u8; 16] = [
     0x80, 0x07, 0x0b, 0x0f, 0x06, 0x0a, 0x04, 0x01, 0x09, 0x08, 0x05, 0x02, 0x0c, 0x0e, 0x0d, 0x03,
 ];
 
-// The affine map of the inverse without its constant 0x63, by what its two halves are found at: over the usual basis,
-// and over the other one, once and twice (which MixColumns needs).
+// The affine map of the inverse without its constant 0x63, looked up by the two indices that `inverse` gives: over the
+// standard basis; and over the other basis, multiplied by 1 and by 2, which MixColumns needs.
 const AFFINE_HIGH: [u8; 16] = [
     0x00, 0xc7, 0xbd, 0x6f, 0x17, 0x6d, 0xd2, 0xd0, 0x78, 0xa8, 0x02, 0xc5, 0x7a, 0xbf, 0xaa, 0x15,
 ];
@@ -70,7 +70,7 @@ fn high_half(v: u8x64) -> u8x64
     v >> u8x64::splat(4)
 }
 
-// Each byte over the other basis.
+// Changes each byte to the other basis.
 #[inline(always)]
 pub(crate) fn over_basis(v: u8x64) -> u8x64
     ensures { result ≡ map basis v }
@@ -78,7 +78,7 @@ pub(crate) fn over_basis(v: u8x64) -> u8x64
     look_up(BASIS_LOW, low_half(v)) ^ look_up(BASIS_HIGH, high_half(v))
 }
 
-// What the tables of the affine map are read at, for bytes over the other basis.
+// The two indices into the tables of the affine map, for bytes over the other basis.
 #[inline(always)]
 fn inverse(pairs: u8x64) -> (u8x64, u8x64)
     ensures high { result.0 ≡ map high_index pairs }
@@ -94,18 +94,18 @@ fn inverse(pairs: u8x64) -> (u8x64, u8x64)
     (look_up(INVERSE, first) ^ j, look_up(INVERSE, second) ^ i)
 }
 
-// The S-box of bytes over the other basis, without the constant of the affine map.
+// The S-box without the constant of the affine map: from the other basis to the standard basis.
 #[inline(always)]
-pub(crate) fn substituted(pairs: u8x64) -> u8x64
+pub(crate) fn sub_bytes_over_basis(pairs: u8x64) -> u8x64
     ensures { result ≡ map affine pairs }
 {
     let (high, low) = inverse(pairs);
     look_up(AFFINE_HIGH, high) ^ look_up(AFFINE_LOW, low)
 }
 
-// The same over the other basis again, and twice that.
+// The S-box without the constant, with results over the other basis: multiplied by 1 and by 2.
 #[inline(always)]
-pub(crate) fn substituted_and_doubled(pairs: u8x64) -> (u8x64, u8x64)
+pub(crate) fn sub_bytes_and_double(pairs: u8x64) -> (u8x64, u8x64)
     ensures once { result.0 ≡ map affine_once pairs }
     ensures twice { result.1 ≡ map affine_twice pairs }
 {
@@ -115,9 +115,10 @@ pub(crate) fn substituted_and_doubled(pairs: u8x64) -> (u8x64, u8x64)
     (once, twice)
 }
 
+// SubBytes: the S-box of each byte, over the standard basis.
 #[inline(always)]
 pub(crate) fn sub_bytes(v: u8x64) -> u8x64
     ensures { result ≡ map sbox v }
 {
-    substituted(over_basis(v)) ^ u8x64::splat(0x63)
+    sub_bytes_over_basis(over_basis(v)) ^ u8x64::splat(0x63)
 }

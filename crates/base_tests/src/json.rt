@@ -1,3 +1,4 @@
+// Tests of json_text.
 use json_text::{
     ListBuilder, ObjectBuilder, Value, base64_is_exact, base64_text, bytes_of_base64, bytes_of_hex,
     first_other_than_text, hex_is_exact, hex_text, list_at, read_json, text_at, text_value,
@@ -7,8 +8,8 @@ use pme_base::{Bytes, OutOfMemory};
 use std::alloc::Global;
 use std::test::Fail;
 
-// A text, and the same with no space and its names in order; `no` where it is no text (RFC 8259, and the reading of
-// `serde_json` where an object names a member twice).
+// Each case: a text, and its value written again, compact and with sorted names; `no` if the text is invalid (RFC 8259; for
+// repeated names in an object, the rule of `serde_json`).
 const TEXTS: &str = r#"
 {"b":1, "a":[true, null]} -> {"a":[true,null],"b":1}
  { "a" : 1, "a" : {} } -> {"a":{}}
@@ -24,7 +25,7 @@ const TEXTS: &str = r#"
 nul -> no
 "#;
 
-// A number, and the whole number that it is.
+// Each case: a number, and the integer that it is read as.
 const NUMBERS: &str = "
 0 -> 0
 18446744073709551615 -> 18446744073709551615
@@ -36,7 +37,7 @@ const NUMBERS: &str = "
 \"1\" -> no
 ";
 
-// Bytes, and their base64 text (RFC 4648, section 10) and hex text.
+// Each case: bytes, their base64 text (RFC 4648, section 10), and their hex text.
 const CODES: &str = "
  ->  ->
 f -> Zg== -> 66

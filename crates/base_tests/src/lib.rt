@@ -1,5 +1,5 @@
-// Tests of the base crates: the outside in memory and real, JSON texts, refusal lines and runs. They stand here so that
-// none of those crates is proved again for its tests.
+//! Tests of pme_base, json_text, key_material, refusal_lines and hybrid_runs. They are in a crate of their own so that none
+//! of those crates is proved a second time with its tests.
 #![tactic(auto)]
 
 #[cfg(test)]
@@ -8,5 +8,7 @@ mod json;
 mod lines;
 #[cfg(test)]
 mod outside;
+#[cfg(test)]
+mod policies;
 #[cfg(test)]
 mod runs;

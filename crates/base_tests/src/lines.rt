@@ -1,3 +1,4 @@
+// Tests of refusal_lines.
 use pme_base::{
     Bytes, Cause, Detail, ItemWord, PagePart, Place, PlaceKind, Refusal, StructName, ThriftFault,
     refusal_at,

@@ -1,3 +1,4 @@
+// Tests of the files, sinks and random sources in pme_base.
 ghost use Rattle.std.specs.Prelude.{None};
 
 use pme_base::{
@@ -25,7 +26,7 @@ fn lists_of_bytes_and_words_hold_what_was_added(rt: HostRuntime) -> Result<(), F
 }
 
 #[test]
-fn a_set_of_names_tells_new_ones_and_a_list_is_taken_apart(rt: HostRuntime) -> Result<(), Fail> {
+fn a_set_of_names_detects_new_names_and_a_list_is_taken_apart(rt: HostRuntime) -> Result<(), Fail> {
     let mut names = NameSet::new(rt.alloc());
     let mut list = Sequence::new(rt.alloc());
     for name in ["id", "name", "id", ""] {
@@ -119,7 +120,8 @@ fn a_sink_in_memory_keeps_all_that_was_put(rt: HostRuntime) -> Result<(), Fail> 
     Ok(())
 }
 
-/// A file of any name with the bytes 0, 1, 2, 3 and 4, read one at a time, and faulty from an offset on.
+/// Files in which every name has the bytes 0, 1, 2, 3 and 4. A read gives one byte; at
+/// offset `faulty` and after it, it fails.
 #[derive(Drop)]
 struct Trickle {
     faulty: u64,

@@ -1,9 +1,10 @@
+// Tests of hybrid_runs.
 use hybrid_runs::{first_values, run_length, write_bits, write_run};
 use std::test::Fail;
 
-// Width, count, bytes, and the values that are there. `88 c6 fa` is the example of parquet-format's Encodings.md.
+// Each case: bit width, count, bytes, and the values in them. `88 c6 fa` is the example in parquet-format's Encodings.md.
 #[test]
-fn reads_the_values_that_are_there(rt: HostRuntime) -> Result<(), Fail> {
+fn reads_the_available_values(rt: HostRuntime) -> Result<(), Fail> {
     let rows: [(u32, usize, &[u8], &[u32]); 22] = [
         (3, 8, &[0x03, 0x88, 0xc6, 0xfa], &[0, 1, 2, 3, 4, 5, 6, 7]),
         (3, 3, &[0x03, 0x88, 0xc6], &[0, 1, 2]),

@@ -1,4 +1,4 @@
--- A flag at the front of the words.
+-- Lemmas about a flag at the front of the words.
 use Rattle.std.proofs.Common.{◌≡◌, ℕ, ◌≤◌, ◌-◌, true, false, List, [], ◌∷◌, length, take, drop, slice_index_or, refl, ◌∙◌, arith}
 use Rattle.std.proofs.lemmas.List.{take_all}
 use Rattle.std.specs.Prelude.{◌&&◌, not}
@@ -11,7 +11,7 @@ pub flag_first : (verb : Verb) (first : List ℕ) (rest : List (List ℕ)) → i
 flag_first verb first [] flag = flag
 flag_first verb first (value ∷ rest) flag = rw flag refl
 
--- the words behind the first
+-- the words after the first
 abbrev behind : List (List ℕ) → List (List ℕ)
 behind words = take (length words - 1) (drop 1 words)
 
@@ -23,12 +23,12 @@ flag_front verb (f ∷ rest) first some same flag =
     let here : first ≡ f = same in
     rw (here, all) (flag_first verb f rest (rw here at flag))
 
--- a flag that comes again is refused
+-- a flag that is repeated is refused
 pub flag_again : (verb : Verb) (words : List (List ℕ)) (first : List ℕ) → 1 ≤ length words → first ≡ slice_index_or words 0 first → is_flag verb first ≡ true
     → has_flag verb first (take (length words - 1) (drop 1 words)) ≡ true → are_options verb words ≡ false
 flag_again verb words first some same flag again = flag_front verb words first some same flag ∙ (rw again refl)
 
--- one that doesn't leaves the words behind it
+-- a flag that is not repeated is accepted if the words after it are
 pub flag_once : (verb : Verb) (words : List (List ℕ)) (first : List ℕ) → 1 ≤ length words → first ≡ slice_index_or words 0 first → is_flag verb first ≡ true
     → has_flag verb first (take (length words - 1) (drop 1 words)) ≡ false → are_options verb words ≡ are_options verb (take (length words - 1) (drop 1 words))
 flag_once verb words first some same flag once = flag_front verb words first some same flag ∙ (rw once refl)

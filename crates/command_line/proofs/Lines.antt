@@ -1,4 +1,4 @@
--- The words after a command's word are its options and flags, and their order plays never part.
+-- The words after the name of a command are its options and flags, and their order doesn't matter.
 use Rattle.std.proofs.Common.{◌≡◌, ◌↔◌, ℕ, Bool, true, false, ◌&&◌, ◌||◌, not, List, [], ◌∷◌, Option, Some, None, is_none, if◌then◌else◌, option_map, codes, inl, inr, refl, sym, ◌∙◌, ap, subst}
 use Rattle.std.specs.Bool.{Decides}
 use Rattle.std.specs.Str.{bytes_eq}
@@ -12,7 +12,7 @@ use Rattle.command_line.specs.Commands.{with_three, command_by, command_of}
 use Rattle.command_line.specs.Lines.{Given, option, flag, name_of, spelled, IsNew, IsLine, IsIn, IsValueOf, IsFlagged, IsSpelled, IsLineOf, Asks, LinesAreOptions, OptionsAreLines, ValuesAreGiven, FlagsAreGiven, LinesAskByGivens, OrderIsFree, CommandsHaveLines}
 use Rattle.command_line.proofs.Flags.{flag_first}
 
--- a test and what it decides
+-- a test and the proposition that it decides
 abbrev Choice : Bool → Type 0 → Type 0
 Choice true P = P
 Choice false P = P → ⊥
@@ -24,7 +24,7 @@ choice false P decides = λ p. cc (decides.1 p)
 same_bytes : (xs ys : List ℕ) → Choice (bytes_eq xs ys) (xs ≡ ys)
 same_bytes xs ys = choice (bytes_eq xs ys) (xs ≡ ys) (bytes_eq-Decides xs ys)
 
--- no name is an option's and a flag's
+-- no name belongs to both an option and a flag
 footer_plain : (same : Bool) (name : List ℕ) → Choice same (name ≡ codes "--gcm-only") → takes Footer name ≡ true → (same || false) ≡ false
 footer_plain false name other taken = refl
 footer_plain true name is taken = let wrong : takes Footer (codes "--gcm-only") ≡ true = subst (λ n. takes Footer n ≡ true) is taken in cc wrong
@@ -38,7 +38,7 @@ both : {X : Type 0} (b : Bool) → b ≡ true → b ≡ false → X
 both true holds never = cc never
 both false holds never = cc holds
 
--- a flag or an option at the front
+-- a flag or an option at the front of the words
 flag_skipped : (verb : Verb) (name f : List ℕ) (ws : List (List ℕ)) → is_flag verb f ≡ true → value_of verb name (f ∷ ws) ≡ value_of verb name ws
 flag_skipped verb name f [] flagged = refl
 flag_skipped verb name f (w ∷ ws) flagged = rw flagged refl
@@ -65,7 +65,7 @@ not_in g [] new is = absurd is
 not_in g (h ∷ gs) new (inl e) = new.0 (ap name_of e)
 not_in g (h ∷ gs) new (inr is) = not_in g gs new.1 is
 
--- the value of an option
+-- ---- the value of an option
 past_flag : (f : List ℕ) (gs : List Given) (name : List ℕ) (value : Option (List ℕ)) → IsValueOf name (flag f ∷ gs) value → IsValueOf name gs value
 past_flag f gs name None is = λ v h. is v (inr h)
 past_flag f gs name (Some v) (inl e) = absurd (cc e)
@@ -121,7 +121,7 @@ pub values_are_given : ValuesAreGiven
 values_are_given verb givens name value line =
     (value_is verb givens name value line, λ e. subst (IsValueOf name givens) e (value_held verb givens name line))
 
--- a flag
+-- ---- flags
 neither_flag : (f : List ℕ) (gs : List Given) (name : List ℕ) → (f ≡ name → ⊥) → (IsIn (flag name) gs → ⊥) → IsIn (flag name) (flag f ∷ gs) → ⊥
 neither_flag f gs name other never (inl e) = other (cc e)
 neither_flag f gs name other never (inr h) = never h
@@ -161,7 +161,7 @@ pub flags_are_given : FlagsAreGiven
 flags_are_given verb givens name there line =
     (flag_is verb givens name there line, λ e. subst (IsFlagged name givens) e (flag_held verb givens name line))
 
--- the words of a line are options of the command
+-- the words of valid options and flags are accepted
 pub lines_are_options : LinesAreOptions
 unfolding is_option
 lines_are_options verb [] line = refl
@@ -174,7 +174,7 @@ lines_are_options verb (option n v ∷ gs) line =
     ∙ (ap (λ b. (b && is_none (value_of verb n (spelled gs))) && are_options verb (spelled gs)) line.0
     ∙ (ap (λ o. is_none o && are_options verb (spelled gs)) once ∙ lines_are_options verb gs line.2))
 
--- options of the command are the words of a line
+-- words that are accepted are those of valid options and flags
 and_left : (a b : Bool) → (a && b) ≡ true → a ≡ true
 and_left true b e = refl
 and_left false b e = cc e
@@ -295,7 +295,7 @@ lines_ask_by_givens verb word givens asked names line = (
   λ a. command_is verb word givens names line ∙ asks_for verb givens asked line a,
 )
 
--- two lines in which the same is given
+-- two lines with the same options and flags
 value_moved : (xs ys : List Given) (name : List ℕ) (value : Option (List ℕ)) → ((given : Given) → IsIn given xs ↔ IsIn given ys) → IsValueOf name xs value → IsValueOf name ys value
 value_moved xs ys name None same is = λ v h. is v ((same (option name v)).1 h)
 value_moved xs ys name (Some v) same is = (same (option name v)).0 is

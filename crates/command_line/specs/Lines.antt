@@ -1,4 +1,4 @@
--- A command line in the user's words: the command's word, and then the options and flags that are given, in any order.
+-- Command lines as the user sees them: the name of a command, then options and flags in any order.
 use Rattle.std.specs.Prelude.{◌≡◌, ◌↔◌, ◌⊎◌, ℕ, Bool, true, false, List, [], ◌∷◌, Option, Some, None, codes}
 use Rattle.command_line.specs.declared.command.Command.{Command}
 use Rattle.command_line.specs.declared.command.Command.TheVariants as command
@@ -8,49 +8,53 @@ use Rattle.command_line.specs.Verbs.{verb_of, takes, is_flag}
 use Rattle.command_line.specs.Options.{value_of, has_flag, are_options}
 use Rattle.command_line.specs.Commands.{module_with, footer_with, command_of}
 
--- an option's name with its value, which may be any word, or a flag's name
+-- an option with its value, which may be any word, or a flag
 pub data Given : Type 0 where
   option : List ℕ → List ℕ → Given
   flag : List ℕ → Given
 
+-- the name of an option or a flag
 abbrev pub name_of : Given → List ℕ
 name_of (option name value) = name
 name_of (flag name) = name
 
--- the words of what is given: the name and the value of an option, the name of a flag
+-- the words for these options and flags: the name and the value of an option, the name of a flag
 abbrev pub spelled : List Given → List (List ℕ)
 spelled [] = []
 spelled (option name value ∷ givens) = name ∷ value ∷ spelled givens
 spelled (flag name ∷ givens) = name ∷ spelled givens
 
+-- the command has this option or flag
 abbrev pub IsOf : Verb → Given → Type 0
 IsOf verb (option name value) = takes verb name ≡ true
 IsOf verb (flag name) = is_flag verb name ≡ true
 
--- nothing else is given under the name
+-- no option or flag in the list has this name
 abbrev pub IsNew : List ℕ → List Given → Type 0
 IsNew name [] = Unit {0}
 IsNew name (given ∷ givens) = (name_of given ≡ name → ⊥) × IsNew name givens
 
--- each is an option or a flag of the command, and no name is given twice
+-- all are options and flags of the command, and no name is given twice
 abbrev pub IsLine : Verb → List Given → Type 0
 IsLine verb [] = Unit {0}
 IsLine verb (given ∷ givens) = IsOf verb given × IsNew (name_of given) givens × IsLine verb givens
 
+-- the list contains this option or flag
 abbrev pub IsIn : Given → List Given → Type 0
 IsIn given [] = ⊥
 IsIn given (first ∷ givens) = (first ≡ given) ⊎ IsIn given givens
 
--- the value given under a name, or that none is; whether a flag is given
+-- the value of an option in the list, or None if it isn't given
 abbrev pub IsValueOf : List ℕ → List Given → Option (List ℕ) → Type 0
 IsValueOf name givens (Some value) = IsIn (option name value) givens
 IsValueOf name givens None = (value : List ℕ) → IsIn (option name value) givens → ⊥
 
+-- whether a flag is given in the list
 abbrev pub IsFlagged : List ℕ → List Given → Bool → Type 0
 IsFlagged name givens true = IsIn (flag name) givens
 IsFlagged name givens false = IsIn (flag name) givens → ⊥
 
--- the command that is asked for by what is given, in whatever order
+-- the options and flags in the list, in any order, ask for this command
 pub record AsksModule (givens : List Given) (asked : Command) : Type 0 where
   pub key : List ℕ
   pub associated_data : List ℕ
@@ -81,42 +85,45 @@ Asks Module givens asked = AsksModule givens asked
 Asks Thrift givens asked = AsksThrift givens asked
 Asks Footer givens asked = AsksFooter givens asked
 
--- the words that are options of the command are those of a line, and no others
+-- the words of valid options and flags are accepted
 abbrev pub LinesAreOptions : Type 0
 LinesAreOptions = (verb : Verb) (givens : List Given) → IsLine verb givens → are_options verb (spelled givens) ≡ true
 
+-- these are the words of valid options and flags of the command
 pub record IsSpelled (verb : Verb) (words : List (List ℕ)) : Type 0 where
   pub givens : List Given
   pub line : IsLine verb givens
   pub is : spelled givens ≡ words
 
+-- words that are accepted are those of valid options and flags
 abbrev pub OptionsAreLines : Type 0
 OptionsAreLines = (verb : Verb) (words : List (List ℕ)) → are_options verb words ≡ true → IsSpelled verb words
 
--- an option's value and a flag are found wherever they stand
+-- the value of an option is found at any position
 abbrev pub ValuesAreGiven : Type 0
 ValuesAreGiven =
     (verb : Verb) (givens : List Given) (name : List ℕ) (value : Option (List ℕ)) → IsLine verb givens
     → IsValueOf name givens value ↔ (value_of verb name (spelled givens) ≡ value)
 
+-- a flag is found at any position
 abbrev pub FlagsAreGiven : Type 0
 FlagsAreGiven =
-    (verb : Verb) (givens : List Given) (name : List ℕ) (there : Bool) → IsLine verb givens
-    → IsFlagged name givens there ↔ (has_flag verb name (spelled givens) ≡ there)
+    (verb : Verb) (givens : List Given) (name : List ℕ) (is_given : Bool) → IsLine verb givens
+    → IsFlagged name givens is_given ↔ (has_flag verb name (spelled givens) ≡ is_given)
 
--- a line asks for a command by what is given in it
+-- a line is parsed as a command if and only if its options and flags ask for it
 abbrev pub LinesAskByGivens : Type 0
 LinesAskByGivens =
     (verb : Verb) (word : List ℕ) (givens : List Given) (asked : Command) → verb_of word ≡ Some verb → IsLine verb givens
     → (command_of (word ∷ spelled givens) ≡ Some asked) ↔ Asks verb givens asked
 
--- lines in which the same is given mean the same
+-- lines with the same options and flags are parsed as the same command
 abbrev pub OrderIsFree : Type 0
 OrderIsFree =
     (word : List ℕ) (verb : Verb) (xs ys : List Given) → verb_of word ≡ Some verb → IsLine verb xs → IsLine verb ys
     → ((given : Given) → IsIn given xs ↔ IsIn given ys) → command_of (word ∷ spelled xs) ≡ command_of (word ∷ spelled ys)
 
--- the parts of a line: its first word names a command, and the others spell what is given
+-- the parts of a line: its first word is the name of a command, and the others are the words of valid options and flags
 pub record IsLineOf (words : List (List ℕ)) : Type 0 where
   pub word : List ℕ
   pub verb : Verb
@@ -125,6 +132,6 @@ pub record IsLineOf (words : List (List ℕ)) : Type 0 where
   pub line : IsLine verb givens
   pub is : word ∷ spelled givens ≡ words
 
--- a command is asked for by a line alone
+-- words that are parsed as a command have these parts
 abbrev pub CommandsHaveLines : Type 0
 CommandsHaveLines = (words : List (List ℕ)) (asked : Command) → command_of words ≡ Some asked → IsLineOf words

@@ -1,11 +1,11 @@
--- The words after the command: options and flags in any order. An option is a name and the next word as its value,
--- whatever that word begins with; a flag is a name alone.
+-- The words after the name of the command: options and flags in any order. The word after an option's name is its value,
+-- even if it begins with `-`; a flag has no value.
 use Rattle.std.specs.Prelude.{ℕ, Bool, true, false, ◌&&◌, ◌||◌, not, List, [], ◌∷◌, Option, Some, None, is_none, if◌then◌else◌}
 use Rattle.std.specs.Str.{bytes_eq}
 use Rattle.command_line.specs.declared.verb.Verb.{Verb}
 use Rattle.command_line.specs.Verbs.{takes, is_flag}
 
--- the value of the option of this name, where it is there
+-- the value of the option with this name, if it is given
 abbrev pub value_of : Verb → List ℕ → List (List ℕ) → Option (List ℕ)
 value_of verb name [] = None
 value_of verb name (first ∷ []) = None
@@ -14,7 +14,7 @@ value_of verb name (first ∷ value ∷ rest) =
     else if bytes_eq first name then Some value
     else value_of verb name rest
 
--- whether the flag of this name is there
+-- whether the flag with this name is given
 abbrev pub has_flag : Verb → List ℕ → List (List ℕ) → Bool
 has_flag verb name [] = false
 has_flag verb name (first ∷ []) = is_flag verb first && bytes_eq first name
@@ -22,11 +22,11 @@ has_flag verb name (first ∷ value ∷ rest) =
     if is_flag verb first then bytes_eq first name || has_flag verb name (value ∷ rest)
     else has_flag verb name rest
 
--- a name that the command takes and that doesn't come again
+-- an option of the command that is not given again in the words after it
 unfoldable pub is_option : Verb → List ℕ → List (List ℕ) → Bool
 is_option verb name after = takes verb name && is_none (value_of verb name after)
 
--- each is one of the command's and comes once, and each option has a value
+-- all are options and flags of the command, each is given once, and each option has a value
 abbrev pub are_options : Verb → List (List ℕ) → Bool
 are_options verb [] = true
 are_options verb (first ∷ []) = is_flag verb first

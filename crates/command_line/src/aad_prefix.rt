@@ -1,11 +1,11 @@
+// The AAD prefix as an argument.
 ghost use Rattle.std.specs.Prelude.{◌≡◌, ◌≤◌, length, nat_le};
-ghost use Rattle.command_line.specs.Values.{where_it_is};
+ghost use Rattle.command_line.specs.Values.{filter_bytes};
 
-use pme_base::Bytes;
+use pme_base::{Bytes, PREFIX_LIMIT};
 use std::marker::Model;
 
-/// The prefix of a file's associated data, as a line may supply it: at most 1,024 bytes. A contract sees the list
-/// of its bytes.
+/// An AAD prefix that the user supplies, of at most 1,024 bytes. Contracts see it as the list of its bytes.
 #[derive(Drop)]
 pub struct AadPrefix {
     bytes: Bytes,
@@ -13,29 +13,30 @@ pub struct AadPrefix {
 
 impl Model for AadPrefix {
     ghost use Rattle.std.specs.Prelude.{List, ℕ, ◌≤◌, length};
+    ghost use Rattle.pme_base.specs.declared.limits.TheConstants.{PREFIX_LIMIT};
 
     ghost Value = { List ℕ };
 
     ghost view = { λ p. p.bytes };
 
-    ghost invariant = { λ p. length p.bytes ≤ 1024 };
+    ghost invariant = { λ p. length p.bytes ≤ PREFIX_LIMIT };
 }
 
 impl AadPrefix {
-    /// These bytes, unless they are more than 1,024.
+    /// A prefix with these bytes, or None if there are more than 1,024.
     pub fn new(bytes: Bytes) -> Option<AadPrefix>
-        ensures { result ≡ where_it_is (λ b. nat_le (length b) 1024) (Some bytes) }
+        ensures { result ≡ filter_bytes (λ b. nat_le (length b) PREFIX_LIMIT) (Some bytes) }
     {
-        if bytes.len() > 1024 {
+        if bytes.len() > PREFIX_LIMIT {
             return None;
         }
         Some(AadPrefix { bytes })
     }
 
-    /// The bytes, of which there are at most 1,024.
+    /// The bytes of the prefix, at most 1,024.
     pub fn as_slice(&self) -> &[u8]
         ensures bytes { result.now ≡ self.now }
-        ensures short { length self.now ≤ 1024 }
+        ensures short { length self.now ≤ PREFIX_LIMIT }
     {
         self.bytes.as_slice()
     }

@@ -1,10 +1,11 @@
+// The associated data of a module as an argument.
 ghost use Rattle.std.specs.Prelude.{◌≡◌, ◌≤◌, length, nat_le};
-ghost use Rattle.command_line.specs.Values.{where_it_is};
+ghost use Rattle.command_line.specs.Values.{filter_bytes};
 
 use pme_base::Bytes;
 use std::marker::Model;
 
-/// Associated data as a line may give it: at most 4,096 bytes. A contract sees the list of its bytes.
+/// Associated data that the user supplies, of at most 4,096 bytes. Contracts see it as the list of its bytes.
 #[derive(Drop)]
 pub struct AssociatedData {
     bytes: Bytes,
@@ -21,9 +22,9 @@ impl Model for AssociatedData {
 }
 
 impl AssociatedData {
-    /// These bytes, unless they are more than 4,096.
+    /// Associated data with these bytes, or None if there are more than 4,096.
     pub fn new(bytes: Bytes) -> Option<AssociatedData>
-        ensures { result ≡ where_it_is (λ b. nat_le (length b) 4096) (Some bytes) }
+        ensures { result ≡ filter_bytes (λ b. nat_le (length b) 4096) (Some bytes) }
     {
         if bytes.len() > 4096 {
             return None;
@@ -31,7 +32,7 @@ impl AssociatedData {
         Some(AssociatedData { bytes })
     }
 
-    /// The bytes, of which there are at most 4,096.
+    /// The bytes, at most 4,096.
     pub fn as_slice(&self) -> &[u8]
         ensures bytes { result.now ≡ self.now }
         ensures short { length self.now ≤ 4096 }

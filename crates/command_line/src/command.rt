@@ -1,3 +1,4 @@
+// The commands with their arguments, and their parser.
 ghost use Rattle.std.specs.Prelude.{◌≡◌, IfOk};
 ghost use Rattle.std.specs.Option.{option_copied};
 ghost use Rattle.command_line.specs.Commands as defined;
@@ -14,9 +15,9 @@ use std::alloc::Global;
 /// A command with its arguments.
 #[derive(Drop)]
 pub enum Command {
-    /// Open the module that fills a file, and print its plaintext.
+    /// Decrypt the module that takes up a whole file, and print its plaintext.
     Module(ModuleArgs),
-    /// Print the Thrift struct at the front of a file as text.
+    /// Print the Thrift struct at the start of a file as text.
     Thrift(ThriftArgs),
     /// Print the mode, the algorithm, the columns and the row counts of a file's footer.
     Footer(FooterArgs),
@@ -25,18 +26,18 @@ pub enum Command {
 /// The arguments of `module`.
 #[derive(Drop)]
 pub struct ModuleArgs {
-    /// The key that the module is sealed under.
+    /// The key of the module.
     pub key: AesKey,
     /// The associated data of the module.
     pub associated_data: AssociatedData,
-    /// The name of the file that the module fills.
+    /// The name of the file with the module.
     pub file: Text,
 }
 
 /// The arguments of `thrift`.
 #[derive(Drop)]
 pub struct ThriftArgs {
-    /// The name of the file that begins with a struct.
+    /// The name of the file with the struct.
     pub file: Text,
 }
 
@@ -47,13 +48,13 @@ pub struct FooterArgs {
     pub file: Text,
     /// The name of the keys file.
     pub keys: Text,
-    /// The prefix of the associated data, where one is supplied.
+    /// The AAD prefix, if one is supplied.
     pub prefix: Option<AadPrefix>,
-    /// Whether a file whose pages aren't all authenticated is refused.
+    /// Whether files are refused whose pages aren't all authenticated.
     pub gcm_only: bool,
 }
 
-/// Parses a command line without the program's name. None where the words are no valid command.
+/// Parses the words of a command line, without the program's name. None if they aren't a valid command.
 pub fn command_of(alloc: Global, words: &Words) -> Result<Option<Command>, OutOfMemory>
     ensures { IfOk result (λ command. command ≡ defined.command_of words.now) }
 {
@@ -66,6 +67,7 @@ pub fn command_of(alloc: Global, words: &Words) -> Result<Option<Command>, OutOf
     }
 }
 
+/// Parses the options of a command.
 fn command_with(alloc: Global, verb: Verb, options: &[Text]) -> Result<Option<Command>, OutOfMemory>
     ensures { IfOk result (λ command. command ≡ defined.command_with verb options.now) }
 {
@@ -79,6 +81,7 @@ fn command_with(alloc: Global, verb: Verb, options: &[Text]) -> Result<Option<Co
     }
 }
 
+/// Parses the options of `module`.
 fn module_of(alloc: Global, options: &[Text]) -> Result<Option<Command>, OutOfMemory>
     ensures { IfOk result (λ command. command ≡ defined.module_of options.now) }
 {
@@ -94,13 +97,15 @@ fn module_of(alloc: Global, options: &[Text]) -> Result<Option<Command>, OutOfMe
     module_with(alloc, key, data, file)
 }
 
+/// Makes the command `module` from the values of its options.
 fn module_with(
     alloc: Global,
     key: &str,
     associated_data: &str,
     file: &str,
 ) -> Result<Option<Command>, OutOfMemory>
-    ensures { IfOk result (λ command. command ≡ defined.module_with key.now associated_data.now file.now) }
+    ensures { IfOk result (λ command. command ≡
+        defined.module_with key.now associated_data.now file.now) }
 {
     let Some(key) = key_of_hex(alloc, key)? else {
         return Ok(None);
@@ -116,6 +121,7 @@ fn module_with(
     })))
 }
 
+/// Parses the options of `thrift`.
 fn thrift_of(alloc: Global, options: &[Text]) -> Result<Option<Command>, OutOfMemory>
     ensures { IfOk result (λ command. command ≡ defined.thrift_of options.now) }
 {
@@ -126,6 +132,7 @@ fn thrift_of(alloc: Global, options: &[Text]) -> Result<Option<Command>, OutOfMe
     Ok(Some(Command::Thrift(ThriftArgs { file })))
 }
 
+/// Parses the options of `footer`.
 fn footer_of(alloc: Global, options: &[Text]) -> Result<Option<Command>, OutOfMemory>
     ensures { IfOk result (λ command. command ≡ defined.footer_of options.now) }
 {
@@ -140,6 +147,7 @@ fn footer_of(alloc: Global, options: &[Text]) -> Result<Option<Command>, OutOfMe
     footer_with(alloc, gcm_only, file, keys, prefix)
 }
 
+/// Makes the command `footer` from the values of its options and its flag.
 fn footer_with(
     alloc: Global,
     gcm_only: bool,
@@ -147,7 +155,8 @@ fn footer_with(
     keys: &str,
     prefix: Option<&str>,
 ) -> Result<Option<Command>, OutOfMemory>
-    ensures { IfOk result (λ command. command ≡ defined.footer_with gcm_only file.now keys.now (option_copied prefix.entry)) }
+    ensures { IfOk result (λ command. command ≡ defined.footer_with gcm_only file.now keys.now
+        (option_copied prefix.entry)) }
 {
     let Some(prefix) = prefix_with(alloc, prefix)? else {
         return Ok(None);
@@ -162,7 +171,7 @@ fn footer_with(
     })))
 }
 
-/// Parses the supplied prefix, if there is one. The outer None means that its text is no prefix.
+/// Parses the AAD prefix, if one is supplied. The outer None means that its text is invalid.
 fn prefix_with(alloc: Global, text: Option<&str>) -> Result<Option<Option<AadPrefix>>, OutOfMemory>
     ensures { IfOk result (λ prefix. prefix ≡ defined.prefix_with (option_copied text.entry)) }
 {

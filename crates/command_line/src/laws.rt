@@ -1,9 +1,9 @@
-// Laws of the definitions, each the contract of a function that does nothing.
+// Laws of the command-line definitions, as the contract of an empty function.
 ghost use Rattle.command_line.specs.Lines.{LinesAreOptions, OptionsAreLines, ValuesAreGiven, FlagsAreGiven, LinesAskByGivens, OrderIsFree, CommandsHaveLines};
 
-/// The laws of the command line: the words after a command's word are exactly its options, each with its value, and its
-/// flags, in any order and each name once; a value or a flag is found wherever it stands; so the command is fixed by what
-/// is given, and not by its order.
+/// The words after the name of a command are exactly its options, each followed by its value, and its flags, in any order
+/// and each name at most once; a value or a flag is found at any position; so the parsed command doesn't depend on the
+/// order.
 pub fn options_stand_in_any_order()
     ensures options { LinesAreOptions }
     ensures lines { OptionsAreLines }

@@ -1,3 +1,4 @@
+// Look-up and validation of options and flags.
 ghost use Rattle.std.specs.Prelude.{◌≡◌};
 ghost use Rattle.std.specs.Option.{option_copied};
 ghost use Rattle.command_line.specs.Options as defined;
@@ -5,7 +6,7 @@ ghost use Rattle.command_line.specs.Options as defined;
 use crate::verb::{Verb, is_flag, takes};
 use pme_base::Text;
 
-/// The value of the option `name`: the word after its first naming.
+/// The value of the option `name`: the word after its first occurrence.
 pub fn value_of<'a>(verb: Verb, name: &str, options: &'a [Text]) -> Option<&'a str>
     ensures { option_copied result ≡ defined.value_of verb name.now options.now }
 {
@@ -26,7 +27,7 @@ pub fn value_of<'a>(verb: Verb, name: &str, options: &'a [Text]) -> Option<&'a s
     None
 }
 
-/// Whether the flag `name` is there.
+/// Whether the flag `name` is given.
 pub fn has_flag(verb: Verb, name: &str, options: &[Text]) -> bool
     ensures { result ≡ defined.has_flag verb name.now options.now }
 {
@@ -48,7 +49,7 @@ pub fn has_flag(verb: Verb, name: &str, options: &[Text]) -> bool
 }
 
 #[tactic(auto, using(crate::proofs::Flags::flag_again, crate::proofs::Flags::flag_once))]
-/// Whether the words are options and flags of the command, each named once, and each option followed by its value.
+/// Whether the words are options and flags of the command, each given once, and each option followed by its value.
 pub fn are_options(verb: Verb, options: &[Text]) -> bool
     ensures { result ≡ defined.are_options verb options.now }
 {
@@ -72,6 +73,7 @@ pub fn are_options(verb: Verb, options: &[Text]) -> bool
     true
 }
 
+/// Whether the command has an option of this name, which is not given again in the words after it.
 #[tactic(auto, unfolding(crate::specs::Options::is_option))]
 fn is_option(verb: Verb, name: &str, after: &[Text]) -> bool
     ensures { result ≡ defined.is_option verb name.now after.now }

@@ -1,3 +1,4 @@
+// Parsers for the values of options.
 ghost use Rattle.std.specs.Prelude.{◌≡◌, IfOk};
 ghost use Rattle.command_line.specs.Values as defined;
 
@@ -8,7 +9,7 @@ use hex::FromHexError;
 use pme_base::{Bytes, OutOfMemory};
 use std::alloc::Global;
 
-/// The bytes that hex text of either case spells.
+/// Decodes hex text of either case; None if it is invalid.
 pub fn bytes_of_hex(alloc: Global, text: &str) -> Result<Option<Bytes>, OutOfMemory>
     ensures { IfOk result (λ bytes. bytes ≡ defined.bytes_of_hex text.now) }
 {
@@ -19,7 +20,7 @@ pub fn bytes_of_hex(alloc: Global, text: &str) -> Result<Option<Bytes>, OutOfMem
     }
 }
 
-/// An AES key of 16, 24 or 32 bytes in hex.
+/// Parses an AES key: 16, 24 or 32 bytes in hex.
 pub fn key_of_hex(alloc: Global, text: &str) -> Result<Option<AesKey>, OutOfMemory>
     ensures { IfOk result (λ key. key ≡ defined.key_of_hex text.now) }
 {
@@ -32,7 +33,7 @@ pub fn key_of_hex(alloc: Global, text: &str) -> Result<Option<AesKey>, OutOfMemo
     }
 }
 
-/// Associated data of at most 4,096 bytes in hex.
+/// Parses associated data: at most 4,096 bytes in hex.
 pub fn associated_data_of_hex(
     alloc: Global,
     text: &str,
@@ -45,7 +46,7 @@ pub fn associated_data_of_hex(
     }
 }
 
-/// A prefix of associated data, of at most 1,024 bytes in hex.
+/// Parses an AAD prefix: at most 1,024 bytes in hex.
 pub fn prefix_of_hex(alloc: Global, text: &str) -> Result<Option<AadPrefix>, OutOfMemory>
     ensures { IfOk result (λ bytes. bytes ≡ defined.prefix_of_hex text.now) }
 {

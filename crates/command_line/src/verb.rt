@@ -1,7 +1,8 @@
+// The names of the commands, and their options and flags.
 ghost use Rattle.std.specs.Prelude.{◌≡◌};
 ghost use Rattle.command_line.specs.Verbs as defined;
 
-/// A command, by the first word of its line.
+/// A command, without its arguments.
 #[derive(Clone, Copy, Drop)]
 pub enum Verb {
     Module,
@@ -9,7 +10,7 @@ pub enum Verb {
     Footer,
 }
 
-/// The command that `word` names.
+/// The command with the name `word`.
 pub fn verb_of(word: &str) -> Option<Verb>
     ensures { result ≡ defined.verb_of word.now }
 {
@@ -21,7 +22,7 @@ pub fn verb_of(word: &str) -> Option<Verb>
     }
 }
 
-/// Whether the command has an option of this name, which a value follows.
+/// Whether the command has an option of this name, which takes a value.
 pub fn takes(verb: Verb, name: &str) -> bool
     ensures { result ≡ defined.takes verb name.now }
 {
@@ -48,7 +49,7 @@ pub fn takes(verb: Verb, name: &str) -> bool
     }
 }
 
-/// Whether the command has a flag of this name, which stands alone.
+/// Whether the command has a flag of this name, which takes no value.
 pub fn is_flag(verb: Verb, name: &str) -> bool
     ensures { result ≡ defined.is_flag verb name.now }
 {

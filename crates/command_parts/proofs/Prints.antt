@@ -13,7 +13,7 @@ pub followed_by_none : (a : Option (List ℕ)) → a ≡ followed_by [] a
 followed_by_none None = refl
 followed_by_none (Some w) = ap Some (sym (append-nil w))
 
--- a text was written whole, and then a front of the next
+-- one text was written whole, and then a prefix of the next
 pub puts_more : (xs ys : List ℕ) (a b c : Option (List ℕ)) → b ≡ followed_by xs a → PutsFront ys b c → PutsFront (xs ++ ys) a c
 puts_more xs ys a b c whole part = record {
   count = length xs + part.count;

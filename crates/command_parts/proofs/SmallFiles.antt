@@ -1,4 +1,4 @@
--- A file that is read as a whole gives no more than its own bytes.
+-- Reading a whole file gives at most its own bytes.
 use Rattle.std.proofs.Common.{◌≡◌, ◌≤◌, ℕ, ◌+◌, List, length, Option, Some, None, IfSome, Result, Ok, Err, refl, subst, arith}
 use Rattle.std.specs.Prelude.{unwrap_or, []}
 use Rattle.std.specs.FinMap.{get}

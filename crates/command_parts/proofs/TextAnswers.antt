@@ -1,9 +1,10 @@
--- The outcomes of a command that prints one text: there was none, it was printed, or printing it failed.
-use Rattle.std.specs.Prelude.{IfErr}
+-- The outcomes of a command that prints one text: there was no text, it was printed, or printing it failed.
+use Rattle.std.specs.Prelude.{IfErr, ◌||◌}
 use Rattle.std.proofs.Common.{◌≡◌, ℕ, Bool, true, false, List, Option, Some, None, IfSome, Result, Ok, Err, refl, sym, ◌∙◌, ap, inl, inr, ◌⊎◌, subst}
 use Rattle.std.proofs.lemmas.Bool.{false≢true}
 use Rattle.pme_base.specs.declared.refusal.Cause.{Cause}
-use Rattle.pme_base.specs.declared.refusal.Cause.TheVariants.{OutOfMemory, ReadFault, WriteFault}
+use Rattle.pme_base.specs.declared.refusal.Cause.TheVariants.{OutOfMemory, ReadFault, WriteFault, RandomFault, ServiceFault}
+use Rattle.pme_base.specs.Causes.{either}
 use Rattle.pme_base.specs.Outside.{Published, followed_by, PutsFront}
 use Rattle.pme_base.specs.Refusals.{is_free}
 use Rattle.pme_base.specs.Counts.{Rose}
@@ -11,7 +12,7 @@ use Rattle.command_parts.specs.declared.stop.Stop.{Stop}
 use Rattle.command_parts.specs.Stops.{EndsAs, IsAboutFile, plain_stop}
 use Rattle.command_parts.specs.World.{StopsReading, StopsWriting}
 use Rattle.command_parts.specs.Printing.{is_printing_cause}
-use Rattle.command_parts.specs.TextCommand.{TextAnswered, TextCompletes, Printed, PrintsFront, IsTextStop, ended, stopped_by}
+use Rattle.command_parts.specs.TextCommand.{TextAnswered, TextCompletes, Printed, PrintsFront, IsTextStop, StoppedBy, ended}
 use Rattle.command_parts.proofs.Cases.{printing_is_free}
 use Rattle.command_parts.proofs.Prints.{puts_nothing}
 
@@ -44,7 +45,7 @@ text_printed text (Some files) before after t h e = record {
   part = tt;
 }
 
--- printing it failed
+-- printing the text failed
 pub text_unprinted : (text : Published → Result (List ℕ) Stop) (published : Option Published) (before after : Option (List ℕ)) (t : List ℕ) (stop : Stop)
     → IfSome published (λ files. EndsAs (Ok t) (text files))
     → is_printing_cause stop.refusal.cause ≡ true
@@ -63,25 +64,32 @@ text_unprinted text (Some files) before after t stop h printing part = record {
   part = subst (λ (r : Result (List ℕ) Stop). PrintsFront r before after) (h refl) part;
 }
 
--- the causes of a command that draws nothing which are possible at any step: ReadFault, WriteFault and OutOfMemory
-abbrev pub OnlyReads : (Cause → Bool) → Type 0
-OnlyReads is_cause = (cause : Cause) → is_free cause ≡ true → is_cause cause ≡ true → (cause ≡ ReadFault → ⊥) → (cause ≡ WriteFault → ⊥) → cause ≡ OutOfMemory
+-- of the causes that are possible at any step, a command that draws nothing and asks no service has ReadFault, WriteFault
+-- and OutOfMemory
+free_cause : (is_cause : Cause → Bool) → is_cause RandomFault ≡ false → is_cause ServiceFault ≡ false → (cause : Cause) → is_free cause ≡ true
+    → either is_cause is_printing_cause cause ≡ true → (cause ≡ ReadFault → ⊥) → (cause ≡ WriteFault → ⊥) → cause ≡ OutOfMemory
+free_cause is_cause random service OutOfMemory f m r w = refl
+free_cause is_cause random service ReadFault f m r w = absurd (r refl)
+free_cause is_cause random service WriteFault f m r w = absurd (w refl)
+free_cause is_cause random service RandomFault f m r w = absurd (false≢true (sym (ap (λ b. b || false) random) ∙ m))
+free_cause is_cause random service ServiceFault f m r w = absurd (false≢true (sym (ap (λ b. b || false) service) ∙ m))
+free_cause is_cause random service _ f m r w = absurd cc
 
 -- where there is a text and no call outside failed, such a command succeeds or runs out of memory
 pub text_completes : (text : Published → Result (List ℕ) Stop) (published : Option Published) (before after : Option (List ℕ)) (f g u v : ℕ) (outcome : Result Unit Stop)
-    (is_cause : Cause → Bool) → OnlyReads is_cause → TextAnswered text published before after outcome → StopsReading f g outcome
-    → StopsWriting u v outcome → stopped_by is_cause outcome ≡ true
+    (is_cause : Cause → Bool) → is_cause RandomFault ≡ false → is_cause ServiceFault ≡ false → TextAnswered text published before after outcome → StopsReading f g outcome
+    → StopsWriting u v outcome → StoppedBy (either is_cause is_printing_cause) outcome
     → TextCompletes text published (Rose f g ⊎ Rose u v) outcome
-text_completes text None before after f g u v outcome is_cause only a r w m = tt
-text_completes text (Some files) before after f g u v (Ok _) is_cause only a r w m = λ t there calm. tt
-text_completes text (Some files) before after f g u v (Err stop) is_cause only a r w m = λ t there calm.
-    only stop.refusal.cause (must_be_free (is_free stop.refusal.cause) refl t there) m (λ e. calm (inl (r.failed e))) (λ e. calm (inr (w.failed e)))
+text_completes text None before after f g u v outcome is_cause random service a r w m = tt
+text_completes text (Some files) before after f g u v (Ok _) is_cause random service a r w m = λ t there calm. tt
+text_completes text (Some files) before after f g u v (Err stop) is_cause random service a r w m = λ t there calm.
+    free_cause is_cause random service stop.refusal.cause (must_be_free (is_free stop.refusal.cause) refl t there) m (λ e. calm (inl (r.failed e))) (λ e. calm (inr (w.failed e)))
   where
     must_be_free : (b : Bool) → is_free stop.refusal.cause ≡ b → (t : List ℕ) → text files ≡ Ok t → is_free stop.refusal.cause ≡ true
     must_be_free true e t there = e
     must_be_free false e t there = let same : Err stop ≡ Ok tt = a.answer e ∙ ap ended there in cc
 
--- what holds of the stop in place of the text, and of those of printing, holds of the command's stop
+-- if `P` holds for the stop in place of the text, and for each stop of printing, it holds for the command's stop
 pub text_stops : (P : Stop → Type 0) → ((cause : Cause) → is_printing_cause cause ≡ true → P (plain_stop cause)) → (text : Result (List ℕ) Stop) (outcome : Result Unit Stop)
     → IfErr text P → IfErr outcome (IsTextStop text) → IfErr outcome P
 text_stops P printing text (Ok _) there stops = tt

@@ -1,4 +1,4 @@
--- A keys file: a small file that gives each key id a key.
+-- A keys file: a small file with a key for each key id.
 use Rattle.std.specs.Prelude.{ℕ, Bool, true, List, Option, Result, Ok, Err}
 use Rattle.pme_base.specs.declared.refusal.Cause.{Cause}
 use Rattle.pme_base.specs.declared.refusal.Cause.TheVariants.{BadKeys}

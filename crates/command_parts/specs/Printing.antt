@@ -14,7 +14,3 @@ abbrev pub is_printing_cause : Cause → Bool
 is_printing_cause WriteFault = true
 is_printing_cause OutOfMemory = true
 is_printing_cause _ = false
-
-abbrev pub is_printing_result : {T : Type 0} → Result T Refusal → Bool
-is_printing_result (Ok _) = true
-is_printing_result (Err refusal) = is_printing_cause refusal.cause

@@ -1,5 +1,6 @@
--- A small file: one that is read as a whole, of at most 16,777,216 bytes.
+-- A small file has at most `SMALL_FILE_LIMIT` bytes and is read whole.
 use Rattle.std.specs.Prelude.{◌≡◌, ℕ, ◌<◌, ◌^◌, Bool, true, nat_lt, if◌then◌else◌, List, length, take, Option, Some, None, Result, Ok, Err}
+use Rattle.pme_base.specs.declared.limits.TheConstants.{SMALL_FILE_LIMIT}
 use Rattle.pme_base.specs.declared.place.Place.{Place}
 use Rattle.pme_base.specs.declared.place.PlaceKind.TheVariants.{File}
 use Rattle.pme_base.specs.declared.refusal.Cause.{Cause}
@@ -10,12 +11,12 @@ use Rattle.pme_base.specs.Refusals.{plain_refusal, pair_refusal}
 use Rattle.pme_base.specs.Steps.{◌>>=◌}
 use Rattle.pme_base.specs.Reading.{is_reading_cause}
 
--- a file as a whole
+-- the place of a file as a whole
 abbrev pub whole_file : Place
 whole_file = place_of File 0 0 0
 
 abbrev pub small_limit : ℕ
-small_limit = 16777216
+small_limit = SMALL_FILE_LIMIT
 
 -- a size within the limit
 abbrev pub small_size : ℕ → Result ℕ Refusal
@@ -26,7 +27,7 @@ abbrev pub small_bytes : Option (List ℕ) → Result (List ℕ) Refusal
 small_bytes None = Err (plain_refusal NoFile)
 small_bytes (Some bytes) = small_size (length bytes) >>= (λ _. Ok bytes)
 
--- where the file is as long as the buffer, the buffer holds the whole file
+-- if the file is as long as the buffer, the buffer holds the whole file
 pub record IsWhole (bytes : List ℕ) (count : ℕ) (buffer : List ℕ) : Type 0 where
   pub read : length bytes ≡ length buffer → length bytes < 2 ^ 64 → take count buffer ≡ bytes
 
@@ -34,7 +35,3 @@ pub record IsWhole (bytes : List ℕ) (count : ℕ) (buffer : List ℕ) : Type 0
 abbrev pub is_small_cause : Cause → Bool
 is_small_cause TooLarge = true
 is_small_cause cause = is_reading_cause cause
-
-abbrev pub is_small_result : {T : Type 0} → Result T Refusal → Bool
-is_small_result (Ok _) = true
-is_small_result (Err refusal) = is_small_cause refusal.cause

@@ -8,7 +8,7 @@ use Rattle.refusal_lines.specs.declared.cause_table.LineForm.TheVariants as form
 use Rattle.refusal_lines.specs.CauseRows.{line_form}
 use Rattle.command_parts.specs.declared.stop.Stop.{Stop}
 
--- the name of the file, where a line of this form names the file
+-- the name of the file, if a line of this form names it
 abbrev pub subject_by : LineForm → List ℕ → List ℕ
 subject_by form.Place name = name
 subject_by form.File name = name
@@ -30,18 +30,18 @@ about name (Err refusal) = Err (stop_of refusal name)
 abbrev pub IsAboutFile : List ℕ → Stop → Type 0
 IsAboutFile name stop = stop.subject ≡ subject_by (line_form stop.refusal.cause) name
 
--- a stop whose line names no file is about none
+-- a stop whose line names no file has no subject
 abbrev pub IsAboutItsFile : Stop → Type 0
 IsAboutItsFile stop = line_form stop.refusal.cause ≡ form.Bare → stop.subject ≡ []
 
 abbrev pub StopsAbout : {T : Type 0} → Result T Stop → Type 0
 StopsAbout outcome = IfErr outcome IsAboutItsFile
 
--- whether a command ended with a cause that is possible at any step
+-- whether a command stopped for a cause that is possible at any step
 abbrev pub is_free_outcome : {T : Type 0} → Result T Stop → Bool
 is_free_outcome (Ok _) = false
 is_free_outcome (Err stop) = is_free stop.refusal.cause
 
--- it ends as defined, unless with such a cause
+-- the result is the defined one, unless the command stopped for such a cause
 abbrev pub EndsAs : {T : Type 0} → Result T Stop → Result T Stop → Type 0
 EndsAs outcome defined = is_free_outcome outcome ≡ false → outcome ≡ defined

@@ -4,6 +4,7 @@ use Rattle.std.specs.Prelude.{◌≡◌, ◌⊎◌, ℕ, ◌+◌, ◌≤◌, Boo
 use Rattle.pme_base.specs.declared.refusal.Cause.{Cause}
 use Rattle.pme_base.specs.declared.refusal.Cause.TheVariants.{WriteFault, OutOfMemory}
 use Rattle.pme_base.specs.declared.refusal.Refusal.{Refusal}
+use Rattle.pme_base.specs.Causes.{either}
 use Rattle.pme_base.specs.Outside.{Published, followed_by, PutsFront}
 use Rattle.pme_base.specs.Steps.{Answers}
 use Rattle.command_parts.specs.declared.stop.Stop.{Stop}
@@ -20,7 +21,7 @@ ended (Err stop) = Err stop
 abbrev pub AnswersText : Result (List ℕ) Refusal → (Published → Result (List ℕ) Refusal) → Option Published → Type 0
 AnswersText result text published = IfSome published (λ files. Answers result (text files))
 
--- likewise, where refusals name their file
+-- likewise, for a result whose refusals name their file
 abbrev pub GivesText : Result (List ℕ) Stop → (Published → Result (List ℕ) Stop) → Option Published → Type 0
 GivesText result text published = IfSome published (λ files. EndsAs result (text files))
 
@@ -28,40 +29,30 @@ GivesText result text published = IfSome published (λ files. EndsAs result (tex
 abbrev pub Printed : Result (List ℕ) Stop → Option (List ℕ) → Option (List ℕ) → Type 0
 Printed text before after = IsOkAnd text (λ t. after ≡ followed_by t before)
 
--- a prefix of the text was printed where there is one, else nothing
+-- a prefix of the text was printed; nothing, if there is no text
 abbrev pub PrintsFront : Result (List ℕ) Stop → Option (List ℕ) → Option (List ℕ) → Type 0
 PrintsFront (Ok text) before after = PutsFront text before after
 PrintsFront (Err stop) before after = after ≡ before
 
 -- the outcome and the output of such a command, by the published files
 pub record TextAnswered (text : Published → Result (List ℕ) Stop) (published : Option Published) (before after : Option (List ℕ)) (outcome : Result Unit Stop) : Type 0 where
-  -- the outcome is the defined one, unless a call outside failed or an allocation
+  -- the outcome is the defined one, unless a call outside or an allocation failed
   pub answer : IfSome published (λ files. EndsAs outcome (ended (text files)))
   pub printed : OnOk outcome (IfSome published (λ files. Printed (text files) before after))
   -- a refusal prints nothing, or a prefix of the text where printing failed
   pub kept : IfErr outcome (λ stop. is_printing_cause stop.refusal.cause ≡ false → after ≡ before)
   pub part : OnErr outcome (IfSome published (λ files. PrintsFront (text files) before after))
 
--- where there is a text and no call outside fails, the command succeeds or runs out of memory
+-- if there is a text and no call outside fails, the command succeeds or runs out of memory
 abbrev pub TextCompletes : (Published → Result (List ℕ) Stop) → Option Published → Type 0 → Result Unit Stop → Type 0
 TextCompletes text published Fault outcome =
     IfSome published (λ files. (t : List ℕ) → text files ≡ Ok t → ¬ Fault → IfErr outcome (λ stop. stop.refusal.cause ≡ OutOfMemory))
 
--- whether each refusal of a step, or each stop of a command, has one of these causes
-abbrev pub caused_by : {T : Type 0} → (Cause → Bool) → Result T Refusal → Bool
-caused_by is_cause (Ok x) = true
-caused_by is_cause (Err refusal) = is_cause refusal.cause
+-- a stop of the command has one of these causes
+abbrev pub StoppedBy : {T : Type 0} → (Cause → Bool) → Result T Stop → Type 0
+StoppedBy is_cause result = IfErr result (λ stop. is_cause stop.refusal.cause ≡ true)
 
-abbrev pub stopped_by : {T : Type 0} → (Cause → Bool) → Result T Stop → Bool
-stopped_by is_cause (Ok _) = true
-stopped_by is_cause (Err stop) = is_cause stop.refusal.cause
-
--- the causes of printing are among these
-pub record EndsPrinting (is_cause : Cause → Bool) : Type 0 where
-  pub fault : is_cause WriteFault ≡ true
-  pub memory : is_cause OutOfMemory ≡ true
-
--- the text did not fail to be written
+-- no stop in place of the text is a WriteFault
 abbrev pub IsQuietWriter : {T : Type 0} → Result T Stop → Type 0
 IsQuietWriter text = IfErr text (λ stop. stop.refusal.cause ≡ WriteFault → ⊥)
 
@@ -69,11 +60,11 @@ IsQuietWriter text = IfErr text (λ stop. stop.refusal.cause ≡ WriteFault → 
 abbrev pub IsTextStop : Result (List ℕ) Stop → Stop → Type 0
 IsTextStop text stop = (text ≡ Err stop) ⊎ ((is_printing_cause stop.refusal.cause ≡ true) × (stop ≡ plain_stop stop.refusal.cause))
 
--- what such a command guarantees: its outcome and output, its causes, and that it reads at most `most` bytes and
--- changes nothing but the output
+-- what such a command guarantees, whose text can't be made for one of the causes `is_cause`: its outcome and output, its
+-- causes, and that it reads at most `most` bytes and changes nothing but the output
 pub record TextGuarantees (text : Published → Result (List ℕ) Stop) (is_cause : Cause → Bool) (most : ℕ) (old new : World) (outcome : Result Unit Stop) : Type 0 where
   pub answered : TextAnswered text old.files.published old.out.written new.out.written outcome
-  pub causes : stopped_by is_cause outcome ≡ true
+  pub causes : StoppedBy (either is_cause is_printing_cause) outcome
   pub writes : StopsWriting old.out.faults new.out.faults outcome
   pub given : new.files.given ≤ old.files.given + most
   pub reads_only : ReadsOnly old new

@@ -37,7 +37,7 @@ random_state to_come faults random = record { to_come = to_come random; faults =
 abbrev pub sink_state : {S : Type 0} → (S → Option (List ℕ)) → (S → ℕ) → S → SinkState
 sink_state written faults sink = record { written = written sink; faults = faults sink }
 
--- the world of four objects
+-- the state of the four objects
 abbrev pub world_of : {F N O E : Type 0} → (F → Option Published) → (F → ℕ) → (F → ℕ) → (N → Option (List ℕ)) → (N → ℕ)
     → (O → Option (List ℕ)) → (O → ℕ) → (E → Option (List ℕ)) → (E → ℕ) → F → N → O → E → World
 world_of published given file_faults to_come random_faults out out_faults err err_faults f n o e = record {
@@ -47,7 +47,7 @@ world_of published given file_faults to_come random_faults out out_faults err er
   err = sink_state err err_faults e;
 }
 
--- the world of files and a sink, beside a source of random bytes and an error text in these states
+-- the state of files and a sink, beside a random source and an error stream in the given states
 abbrev pub world_with : {F O : Type 0} → RandomState → SinkState → (F → Option Published) → (F → ℕ) → (F → ℕ)
     → (O → Option (List ℕ)) → (O → ℕ) → F → O → World
 world_with random err published given file_faults out out_faults f o = record {

@@ -1,5 +1,5 @@
-//! What all commands share: how a command stops, reading small files and keys files, printing one text, and the
-//! state of the objects outside (`World`), over which each command states its guarantees.
+//! Parts of all commands: why a command stops, reading small files and keys files, printing one text, and the state of
+//! the files, the random source and the streams (`World`), over which each command states its guarantees.
 #![tactic(auto)]
 
 mod keys_file;

@@ -1,14 +1,16 @@
+// Printing a text to a sink.
 ghost use Rattle.std.specs.Prelude.{◌≡◌, ℕ, List, Bool, Option, Result, true, IfOk, IfErr, OnOk, OnErr, IsOkAnd};
+ghost use Rattle.pme_base.specs.Causes.{CausedBy, either};
 ghost use Rattle.pme_base.specs.declared.refusal.Cause.{Cause};
 ghost use Rattle.pme_base.specs.declared.refusal.Refusal.{Refusal};
 ghost use Rattle.pme_base.specs.Outside.{Published, PutsFront, followed_by};
 ghost use Rattle.pme_base.specs.Steps.{WritesFail};
 ghost use Rattle.command_parts.specs.declared.stop.Stop.{Stop};
 ghost use Rattle.command_parts.specs.World.{Appended, StopsReading, StopsWriting};
-ghost use Rattle.command_parts.specs.Printing.{is_printing_result};
+ghost use Rattle.command_parts.specs.Printing.{is_printing_cause};
 ghost use Rattle.command_parts.specs.Stops.{StopsAbout};
 ghost use Rattle.command_parts.specs.Printing as defined;
-ghost use Rattle.command_parts.specs.TextCommand.{GivesText, TextAnswered, IsTextStop, IsQuietWriter, EndsPrinting, stopped_by};
+ghost use Rattle.command_parts.specs.TextCommand.{GivesText, TextAnswered, IsTextStop, IsQuietWriter, StoppedBy};
 
 use crate::stop::{Stop, plain_stop};
 use pme_base::{Bytes, Cause, OutOfMemory, Refusal, Sink, Trouble, plain_refusal};
@@ -19,7 +21,7 @@ fn print<O: Sink>(bytes: &[u8], out: &mut O) -> Result<(), Refusal>
     ensures all { OnOk result (O.written out.new ≡ followed_by bytes.now (O.written out.old)) }
     ensures part { OnErr result (PutsFront bytes.now (O.written out.old) (O.written out.new)) }
     ensures writes { WritesFail (O.faults out.old) (O.faults out.new) result }
-    ensures causes { is_printing_result result ≡ true }
+    ensures causes { CausedBy is_printing_cause result }
 {
     match out.put(bytes) {
         Ok(()) => Ok(()),
@@ -49,11 +51,16 @@ pub fn print_text<O: Sink>(
     text: Result<Bytes, Stop>,
     out: &mut O,
 ) -> Result<(), Stop>
-    ensures answered { (published : Option Published) (defined : Published → Result (List ℕ) Stop) → GivesText text defined published → TextAnswered defined published (O.written out.old) (O.written out.new) result }
-    ensures printed { OnOk result (IsOkAnd text (λ t. O.written out.new ≡ followed_by t (O.written out.old))) }
-    ensures reads { (before now : ℕ) → StopsReading before now text → StopsReading before now result }
+    ensures answered { (published : Option Published) (defined : Published → Result (List ℕ) Stop)
+        → GivesText text defined published
+        → TextAnswered defined published (O.written out.old) (O.written out.new) result }
+    ensures printed { OnOk result (IsOkAnd text
+        (λ t. O.written out.new ≡ followed_by t (O.written out.old))) }
+    ensures reads { (before now : ℕ) → StopsReading before now text
+        → StopsReading before now result }
     ensures writes { IsQuietWriter text → StopsWriting (O.faults out.old) (O.faults out.new) result }
-    ensures causes { (is_cause : Cause → Bool) → EndsPrinting is_cause → stopped_by is_cause text ≡ true → stopped_by is_cause result ≡ true }
+    ensures causes { (is_cause : Cause → Bool) → StoppedBy is_cause text
+        → StoppedBy (either is_cause is_printing_cause) result }
     ensures stops { IfErr result (IsTextStop text) }
     ensures appended { Appended (O.written out.old) (O.written out.new) }
     ensures subject { StopsAbout text → StopsAbout result }

@@ -1,10 +1,12 @@
+// Why a command stopped: a refusal, and the file that it is about.
 ghost use Rattle.std.specs.Prelude.{◌≡◌, ℕ, List, Bool, Option, Result, true, IfErr};
 ghost use Rattle.pme_base.specs.declared.refusal.Cause.{Cause};
 ghost use Rattle.pme_base.specs.declared.refusal.Refusal.{Refusal};
 ghost use Rattle.pme_base.specs.Outside.{Published};
 ghost use Rattle.pme_base.specs.Steps.{ReadsFail};
 ghost use Rattle.command_parts.specs.World.{StopsReading};
-ghost use Rattle.command_parts.specs.TextCommand.{AnswersText, GivesText, caused_by, stopped_by};
+ghost use Rattle.pme_base.specs.Causes.{CausedBy};
+ghost use Rattle.command_parts.specs.TextCommand.{AnswersText, GivesText, StoppedBy};
 ghost use Rattle.command_parts.specs.Stops as defined;
 
 use pme_base::{Bytes, Cause, Refusal, Text, plain_refusal};
@@ -51,9 +53,11 @@ pub fn plain_stop(alloc: Global, cause: Cause) -> Stop
 /// Passes on a text. A refusal becomes a stop about the file `name`.
 pub fn about(alloc: Global, text: Result<Bytes, Refusal>, name: Text) -> Result<Bytes, Stop>
     ensures stop { result ≡ defined.about name text }
-    ensures gives { (published : Option Published) (texts : Published → Result (List ℕ) Refusal) → AnswersText text texts published → GivesText result (λ files. defined.about name (texts files)) published }
+    ensures gives { (published : Option Published) (texts : Published → Result (List ℕ) Refusal)
+        → AnswersText text texts published → GivesText result
+        (λ files. defined.about name (texts files)) published }
     ensures reads { (before now : ℕ) → ReadsFail before now text → StopsReading before now result }
-    ensures causes { (is_cause : Cause → Bool) → caused_by is_cause text ≡ true → stopped_by is_cause result ≡ true }
+    ensures causes { (is_cause : Cause → Bool) → CausedBy is_cause text → StoppedBy is_cause result }
     ensures named { IfErr result (defined.IsAboutFile name) }
     ensures subject { defined.StopsAbout result }
 {

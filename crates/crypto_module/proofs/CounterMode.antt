@@ -1,4 +1,4 @@
--- CTR modules: bytes open to a text exactly where they hold one of it, and what stands in a buffer in which one was opened.
+-- CTR modules: bytes decrypt to a plaintext if and only if they hold a CTR module of it, and the buffer after a decryption.
 use Rattle.std.proofs.Common.{◌≡◌, ℕ, ◌+◌, ◌-◌, ◌^◌, ◌≤◌, ◌<◌, false, true, min, List, ◌++◌, length, take, drop, replicate, refl, sym, ap, ◌∙◌, subst, arith, Result, Ok, Err, length-append}
 use Rattle.std.proofs.lemmas.List.{take-append-drop, drop-drop, drop-take, take_at, drop_at, take-take, length-take, length-take-le, length-drop}
 use Rattle.std.proofs.lemmas.Nat.{le_bytes_4, from_le_bytes-to_le_bytes_4}
@@ -42,7 +42,7 @@ ctr_joined m head nonce cipher e four twelve =
 pub ctr_parts_of : (key plain : List ℕ) (limit : ℕ) (m : List ℕ) → (s : IsCtr key plain limit m) → HasCtrParts m (to_le_bytes w32 (12 + length s.cipher)) s.nonce s.cipher
 ctr_parts_of key plain limit m s = ctr_joined m (to_le_bytes w32 (12 + length s.cipher)) s.nonce s.cipher s.layout refl s.nonce_length
 
--- bytes of the right length are a module
+-- bytes with the right length field are a CTR module
 ctr_module_from : (key : List ℕ) (limit : ℕ) (bytes : List ℕ) (size : ℕ) → to_le_bytes w32 (size - 4) ≡ take 4 bytes → IsCtrSized limit bytes size
     → IsCtr key (gctr key (nonce_of bytes) 1 (ctr_cipher_of (take size bytes))) limit (take size bytes)
 ctr_module_from key limit bytes size field sized =
@@ -111,7 +111,7 @@ opened_if_holds key plain place at limit bytes small (n, s) =
     ∙ ap (λ t. Ok (gctr key s.nonce 1 t)) s.encrypted
     ∙ ap Ok (gctr_twice key s.nonce 1 plain)
 
--- a refusal says that no module is held
+-- if the call fails, the bytes hold no module
 pub ctr_none_held : (key : List ℕ) (place : Place) (at limit : ℕ) (bytes : List ℕ) (refusal : Refusal) → limit ≤ 268435456
     → ctr_size place at limit bytes ≡ Err refusal → (plain : List ℕ) → HoldsCtr key plain limit bytes → false ≡ true
 ctr_none_held key place at limit bytes refusal small refused plain held =
@@ -119,7 +119,7 @@ ctr_none_held key place at limit bytes refusal small refused plain held =
     let e : opened_ctr key place at limit bytes ≡ Err refusal = ap (λ r. r >>= (λ size. Ok (gctr key (nonce_of bytes) 1 (ctr_cipher_of (take size bytes))))) refused in
     cc
 
--- the plaintext stands where it should
+-- the plaintext in the buffer after the call
 ctr_text_left : (key bytes : List ℕ) (size : ℕ) (nonce buffer : List ℕ) → 16 ≤ size → size ≤ length bytes → nonce ≡ nonce_of bytes
     → buffer ≡ gctr key nonce 1 (take (size - 16) (drop 16 bytes))
     → (length buffer ≡ size - 16)

@@ -1,4 +1,4 @@
--- What stands in a buffer in which a module was opened.
+-- Lemmas about the buffer after a GCM module has been decrypted in place.
 use Rattle.std.proofs.Common.{◌≡◌, ◌≢◌, ℕ, ◌+◌, ◌-◌, ◌≤◌, Bool, true, false, List, length, take, drop, sym, ap, ◌∙◌, subst, arith, Result, Ok, Err, IsOk, IsErr}
 use Rattle.std.proofs.lemmas.List.{take-take, drop-take, length-take-le, length-drop}
 use Rattle.std.proofs.lemmas.Slice.{between-put_mid, take-put_mid_below, drop-put_mid}
@@ -21,7 +21,7 @@ use Rattle.crypto_module.proofs.Sizes.{IsSized, sized_is}
 use Rattle.pme_base.proofs.Chain.{when_true, when_false}
 use Rattle.crypto_module.proofs.Sealed.{front_sealed, holds, opened_if_held}
 
--- the ciphertext of the module at the front of bytes
+-- the ciphertext of the module at the front of the bytes
 pub cipher_part : (size : ℕ) (bytes : List ℕ) → 32 ≤ size → size ≤ length bytes → take (size - 16 - 16) (drop 16 bytes) ≡ cipher_of (take size bytes)
 cipher_part size bytes least inside =
     let whole : size ≡ 16 + (size - 16) = omega arith in
@@ -31,7 +31,7 @@ cipher_part size bytes least inside =
     sym (ap (λ k. take k (drop 16 (take size bytes))) count ∙ ap (take (size - 16 - 16)) behind
     ∙ take-take (size - 16 - 16) (size - 16) (drop 16 bytes) (omega arith))
 
--- its nonce
+-- the nonce of the module at the front of the bytes
 pub nonce_part : (size : ℕ) (bytes : List ℕ) → 16 ≤ size → nonce_of (take size bytes) ≡ nonce_of bytes
 nonce_part size bytes least =
     let whole : size ≡ 4 + (size - 4) = omega arith in
@@ -57,7 +57,7 @@ opened_bad key aad place at limit fill bytes size framed differ =
     ap (λ r. r >>= (λ size. unsealed_whole key aad place at (take size bytes))) framed
     ∙ when_false (bytes_eq tag (stored_of m)) _ _ (λ e. differ ((bytes_eq-Decides tag (stored_of m)).0 e))
 
--- the plaintext stands where it should
+-- the plaintext in the buffer after the call
 pub text_part : (size : ℕ) (bytes buffer : List ℕ) → 32 ≤ size → size ≤ length bytes → length buffer ≡ size - 16 - 16
     → take (size - 32) (drop 16 (put_mid 16 (size - 16 - 16) bytes buffer)) ≡ buffer
 text_part size bytes buffer least inside long =
@@ -65,14 +65,14 @@ text_part size bytes buffer least inside long =
     ap (λ k. take k (drop 16 (put_mid 16 (size - 16 - 16) bytes buffer))) count
     ∙ between-put_mid 16 (size - 16 - 16) bytes buffer (size - 16) (omega arith) long
 
--- a refusal says that no module is held
+-- if the call fails, the bytes hold no module
 pub none_held : (key aad : List ℕ) (place : Place) (at limit : ℕ) (fill : Bool) (bytes : List ℕ) (refusal : Refusal) → limit ≤ 268435456
     → opened key aad place at limit fill bytes ≡ Err refusal → (plain : List ℕ) → HoldsGcm fill key aad plain limit bytes → false ≡ true
 none_held key aad place at limit fill bytes refusal small e plain held =
     let opens = opened_if_held key aad plain place at limit fill bytes small held in
     cc
 
--- what is read at the places of nonce, ciphertext and tag
+-- the nonce, the ciphertext and the tag that the code reads from the buffer
 same_tag : (key aad : List ℕ) (bytes : List ℕ) (size : ℕ) (nonce : List ℕ) → 32 ≤ size → size ≤ length bytes → nonce ≡ nonce_of (take size bytes)
     → tag_of key nonce aad (take (size - 16 - 16) (drop 16 bytes)) ≡ tag_of key (nonce_of (take size bytes)) aad (cipher_of (take size bytes))
 same_tag key aad bytes size nonce least inside nonce_is = λ i. tag_of key (nonce_is i) aad (cipher_part size bytes least inside i)

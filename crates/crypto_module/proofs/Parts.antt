@@ -1,4 +1,4 @@
--- A module cut into its parts, and put together again.
+-- Lemmas that split a module into its parts and join them again.
 use Rattle.std.proofs.Common.{◌≡◌, ℕ, ◌+◌, ◌-◌, ◌≤◌, List, ◌++◌, length, take, drop, refl, sym, ap, ◌∙◌, arith, length-append}
 use Rattle.std.proofs.lemmas.List.{take-append-drop, drop-drop, take_at, drop_at}
 use Rattle.crypto_module.specs.Modules.{nonce_of, cipher_of, stored_of}

@@ -1,4 +1,4 @@
--- A module that was written is read back, also where bytes follow it.
+-- A written module is read back, also if other bytes follow it.
 use Rattle.std.proofs.Common.{◌≡◌, ℕ, ◌+◌, ◌≤◌, Bool, true, List, [], ◌++◌, length, take, sym, ap, ◌∙◌, subst, arith, Ok, length-append}
 use Rattle.std.proofs.lemmas.List.{take_at}
 use Rattle.pme_base.specs.declared.place.Place.{Place}

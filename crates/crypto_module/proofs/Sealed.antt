@@ -1,4 +1,4 @@
--- Bytes open to a text exactly where they hold its module.
+-- Bytes decrypt to a plaintext if and only if they hold a GCM module of it.
 use Rattle.std.proofs.Common.{◌≡◌, ℕ, zero, suc, lit<, ◌+◌, ◌-◌, ◌^◌, ◌≤◌, ◌<◌, Bool, true, false, min, List, [], ◌∷◌, ◌++◌, length, take, drop, refl, sym, ap, ◌∙◌, subst, arith, Ok}
 use Rattle.std.proofs.lemmas.List.{take_all, take_min, take-take, length-take, length-take-le, length-drop}
 use Rattle.std.proofs.lemmas.Nat.{le_bytes_4, from_le_bytes-to_le_bytes_4}
@@ -28,7 +28,7 @@ below_take (suc n) [] h i = lit< tt
 below_take (suc n) (x ∷ xs) h zero = h zero
 below_take (suc n) (x ∷ xs) h (suc i) = below_take n xs (λ j. h (suc j)) i
 
--- bytes of the right length and tag are a module
+-- bytes with the right length field and tag are a module
 pub module_from : (key aad m : List ℕ) (limit : ℕ) → 32 ≤ length m → length m ≤ limit + 32 → to_le_bytes w32 (length m - 4) ≡ take 4 m
     → tag_of key (nonce_of m) aad (cipher_of m) ≡ stored_of m → IsGcm key aad (gctr key (nonce_of m) 2 (cipher_of m)) limit m
 module_from key aad m limit least limited field tag_is =
@@ -52,13 +52,13 @@ holds true key aad plain limit bytes size fills s =
     subst (λ (m : List ℕ). IsGcm key aad plain limit m) (take_all size bytes (omega arith)) s
 holds false key aad plain limit bytes size fills s = (size, s)
 
--- the length field is the spelling of the size that it gave
+-- the length field is the little-endian encoding of the size that was read from it
 field_is : (limit : ℕ) (fill : Bool) (bytes : List ℕ) (size : ℕ) → AreBytes bytes → IsSized limit fill bytes size → to_le_bytes w32 (size - 4) ≡ take 4 bytes
 field_is limit fill bytes size each sized =
     let four : length (take 4 bytes) ≡ 4 = length-take-le 4 bytes (omega (arith, sized.least, sized.inside)) in
     le_bytes_4 (take 4 bytes) (size - 4) four (below_take 4 bytes each) (sym sized.counted)
 
--- the front of bytes of this size, where its tag is right
+-- the first `size` bytes are a module if their tag is right
 pub front_sealed : (key aad : List ℕ) (limit : ℕ) (fill : Bool) (bytes : List ℕ) (size : ℕ) → to_le_bytes w32 (size - 4) ≡ take 4 bytes → IsSized limit fill bytes size
     → tag_of key (nonce_of (take size bytes)) aad (cipher_of (take size bytes)) ≡ stored_of (take size bytes)
     → IsGcm key aad (gctr key (nonce_of (take size bytes)) 2 (cipher_of (take size bytes))) limit (take size bytes)
@@ -80,7 +80,7 @@ sealed_if_opened key aad plain place at limit fill bytes each e =
     holds fill key aad plain limit bytes size sized.fills
     (subst (λ (p : List ℕ). IsGcm key aad p limit m) plain_is (front_sealed key aad limit fill bytes size (field_is limit fill bytes size each sized) sized tag_is))
 
--- the parts of a module at the front of bytes, and the size that its frame gives
+-- the size and the parts of a module at the front of other bytes
 pub parts_of : (key aad plain : List ℕ) (limit : ℕ) (m : List ℕ) → (s : IsGcm key aad plain limit m)
     → HasParts m (to_le_bytes w32 (28 + length s.cipher)) s.nonce s.cipher (tag_of key s.nonce aad s.cipher)
 parts_of key aad plain limit m s =
@@ -108,7 +108,7 @@ sized_if_sealed key aad plain limit fill bytes n small fills s =
       counted = counted;
     }
 
--- a module at the front of bytes opens to its text
+-- a module at the front of other bytes decrypts to its plaintext
 pub opened_if_sealed : (key aad plain : List ℕ) (place : Place) (at limit : ℕ) (fill : Bool) (bytes : List ℕ) (n : ℕ) → limit ≤ 268435456
     → (fill ≡ true → length bytes ≤ n) → IsGcm key aad plain limit (take n bytes) → opened key aad place at limit fill bytes ≡ Ok plain
 opened_if_sealed key aad plain place at limit fill bytes n small fills s =
@@ -123,7 +123,7 @@ opened_if_sealed key aad plain place at limit fill bytes n small fills s =
     ∙ when_true (bytes_eq (tag_of key s.nonce aad s.cipher) (tag_of key s.nonce aad s.cipher)) (Ok (gctr key s.nonce 2 s.cipher)) _ (same_bytes (tag_of key s.nonce aad s.cipher))
     ∙ ap Ok plain_is
 
--- the same in the words of `HoldsGcm`
+-- bytes that hold a module (`HoldsGcm`) decrypt to its plaintext
 pub opened_if_held : (key aad plain : List ℕ) (place : Place) (at limit : ℕ) (fill : Bool) (bytes : List ℕ) → limit ≤ 268435456
     → HoldsGcm fill key aad plain limit bytes → opened key aad place at limit fill bytes ≡ Ok plain
 opened_if_held key aad plain place at limit true bytes small s =

@@ -1,4 +1,4 @@
--- A module that is sealed where it lies, at the end of a Vec.
+-- Lemmas about a module that is encrypted in place at the end of a Vec.
 use Rattle.std.proofs.Common.{◌≡◌, ℕ, ◌+◌, ◌-◌, ◌≤◌, List, [], ◌++◌, length, take, drop, replicate, refl, sym, ap, ◌∙◌, subst, arith, length-append, append_assoc}
 use Rattle.std.proofs.lemmas.List.{append-nil, drop_all, drop-drop, take_all, take_at, drop_at, length-take-le, length-drop}
 use Rattle.std.proofs.lemmas.Slice.{take-put_mid}
@@ -10,13 +10,13 @@ use Rattle.gcm_seal.proofs.Texts.{length-gctr, length-tag_of}
 use Rattle.crypto_module.specs.Modules.{IsGcm, IsCtr, parts, sealed_gcm, sealed_ctr, cipher_of}
 use Rattle.crypto_module.proofs.Parts.{HasParts, joined}
 
--- what is written up to the end
+-- bytes that are overwritten up to the end of a list
 last_put : (a k : ℕ) (xs ys : List ℕ) → length xs ≤ a + k → put_mid a k xs ys ≡ take a xs ++ ys
 last_put a k xs ys h =
     let none : post_of a k xs ≡ [] = drop-drop k a xs ∙ drop_all (a + k) xs h in
     ap (λ t. take a xs ++ (ys ++ t)) none ∙ ap (λ t. take a xs ++ t) (append-nil ys)
 
--- the text is sealed, and then the tag is written behind it
+-- the plaintext is encrypted, and then the tag is written after it
 pub sealed_there : (key aad nonce buffer ciphered tag : List ℕ) → 32 ≤ length buffer
     → ciphered ≡ gctr key nonce 2 (take (length buffer - 16 - 16) (drop 16 buffer))
     → tag ≡ tag_of key nonce aad (gctr key nonce 2 (take (length buffer - 16 - 16) (drop 16 buffer)))
@@ -37,7 +37,7 @@ sealed_there key aad nonce buffer ciphered tag whole text_is tag_is =
     ∙ append_assoc (take 16 buffer) ciphered tag
     ∙ (λ i. take 16 buffer ++ (texts i ++ tags i))
 
--- a Vec of these items, whose items from s on were written anew
+-- a Vec whose items from s on have been overwritten
 overlaid : (n s : ℕ) (xs ys : List ℕ) → length xs ≡ n → s ≤ n → length ys ≡ n - s
     → take n ((take s xs ++ (ys ++ drop (length ys) (drop s xs))) ++ drop (length (take s xs ++ (ys ++ drop (length ys) (drop s xs)))) xs) ≡ take s xs ++ ys
 overlaid n s xs ys whole inside long =
@@ -49,11 +49,11 @@ overlaid n s xs ys whole inside long =
     ∙ ap (take n) (append_assoc (take s xs ++ ys) left behind)
     ∙ take_at (take s xs ++ ys) (left ++ behind) n front
 
--- the part from s on
+-- the part of the Vec from s on
 rest_from : (n s : ℕ) (xs : List ℕ) → length xs ≡ n → slice_range xs s n ≡ drop s xs
 rest_from n s xs whole = take_all (n - s) (drop s xs) (simp length-drop (omega arith))
 
--- how long a GCM module is
+-- the length of a GCM module
 pub sealed_length : (key aad nonce plain : List ℕ) → length nonce ≡ 12 → length (sealed_gcm key aad nonce plain) ≡ 32 + length plain
 sealed_length key aad nonce plain twelve =
     let cipher : List ℕ = gctr key nonce 2 plain in
@@ -62,7 +62,7 @@ sealed_length key aad nonce plain twelve =
     joined (sealed_gcm key aad nonce plain) (to_le_bytes w32 (28 + length cipher)) nonce cipher tag refl refl twelve (length-tag_of key nonce aad cipher) in
     has.long ∙ ap (λ k. 32 + k) (length-gctr key nonce 2 plain)
 
--- the text of a CTR module at the end of a Vec is encrypted
+-- encrypting the plaintext of a CTR module at the end of a Vec
 pub ctr_written : (key nonce plain old items text ciphered : List ℕ) (n s : ℕ) → length items ≡ n → length nonce ≡ 12
     → items ≡ old ++ parts nonce plain [] → s ≡ n - length plain
     → text ≡ slice_range items s n → ciphered ≡ gctr key nonce 1 text
@@ -87,18 +87,18 @@ ctr_written key nonce plain old items text ciphered n s whole twelve laid begun 
     ∙ ap (λ t. old ++ t) (append_assoc head nonce (gctr key nonce 1 plain))
     ∙ ap (λ c. old ++ (to_le_bytes w32 c ++ (nonce ++ gctr key nonce 1 plain))) counted
 
--- a module that is not sealed yet
+-- a module before its encryption
 pub laid_parts : (nonce plain : List ℕ) (m : List ℕ) → length nonce ≡ 12 → m ≡ parts nonce plain (replicate 16 0)
     → HasParts m (to_le_bytes w32 (12 + length plain + 16)) nonce plain (replicate 16 0)
 laid_parts nonce plain m twelve laid = joined m (to_le_bytes w32 (12 + length plain + 16)) nonce plain (replicate 16 0) laid refl twelve refl
 
--- what is lent of a Vec with such a module at its end
+-- the slice of the Vec that holds such a module at its end
 pub lent_parts : (nonce plain old items lent : List ℕ) (n s : ℕ) → length items ≡ n → length old ≡ s → items ≡ old ++ parts nonce plain (replicate 16 0)
     → lent ≡ slice_range items s n → lent ≡ parts nonce plain (replicate 16 0)
 lent_parts nonce plain old items lent n s whole begun laid lent_is =
     lent_is ∙ rest_from n s items whole ∙ ap (drop s) laid ∙ drop_at old _ s begun
 
--- a GCM module at the end of a Vec is sealed
+-- encrypting a GCM module at the end of a Vec
 pub gcm_written : (key aad nonce plain old items before after : List ℕ) (n s : ℕ) → length items ≡ n → length old ≡ s → length nonce ≡ 12
     → items ≡ old ++ parts nonce plain (replicate 16 0) → before ≡ slice_range items s n
     → after ≡ take 16 before ++ (gctr key nonce 2 (cipher_of before) ++ tag_of key nonce aad (gctr key nonce 2 (cipher_of before)))
@@ -125,7 +125,7 @@ gcm_written key aad nonce plain old items before after n s whole begun twelve la
     overlaid n s items after whole (omega arith) (ap length sealed ∙ sealed_length key aad nonce plain twelve ∙ all)
     ∙ (λ i. (ap (take s) laid ∙ take_at old _ s begun) i ++ sealed i)
 
--- what was added is a module
+-- the appended bytes are a module
 abbrev pub gcm_of : (key aad nonce plain : List ℕ) (limit : ℕ) → length nonce ≡ 12 → length plain ≤ limit → IsGcm key aad plain limit (sealed_gcm key aad nonce plain)
 gcm_of key aad nonce plain limit twelve within =
     record { nonce = nonce; nonce_length = twelve; cipher = gctr key nonce 2 plain; within = within; encrypted = refl; layout = refl }

@@ -1,26 +1,28 @@
-ghost use Rattle.std.specs.Prelude.{◌≡◌, ◌+◌, ◌-◌, ◌≤◌, true, length, take, IfOk, IfErr};
+// The frame of a module: its size from the length field.
+ghost use Rattle.std.specs.Prelude.{◌≡◌, ◌+◌, ◌-◌, ◌≤◌, true, length, take, IfOk};
 ghost use Rattle.std.specs.Int.{w32, to_le_bytes};
+ghost use Rattle.pme_base.specs.Causes.{CausedBy};
 ghost use Rattle.pme_base.specs.Refusals.{pair_refusal};
 ghost use Rattle.pme_base.specs.Steps.{Quiet};
 ghost use Rattle.crypto_module.specs.Frames as frames;
 
 use pme_base::{Cause, Detail, Place, Refusal, refusal_at};
 
-/// How a module is sealed.
+/// The two forms of a module.
 #[derive(Clone, Copy, Debug, PartialEq, Eq, Drop)]
 pub enum ModuleKind {
-    /// Encrypted and authenticated: a nonce of 12 bytes before the ciphertext, a tag of 16 after it.
+    /// AES-GCM: the ciphertext follows a 12-byte nonce and precedes a 16-byte tag.
     Gcm,
-    /// Encrypted alone: a nonce of 12 bytes before the ciphertext.
+    /// AES-CTR: the ciphertext follows a 12-byte nonce; there is no tag.
     Ctr,
 }
 
-/// The size in bytes of a whole module, its length field included.
+/// The size in bytes of a whole module, including its length field.
 ///
-/// `head` has the first bytes of the module, up to four; with fewer than four the module ends there. `room`
-/// counts the bytes that follow the length field. In this order, the refusals at `place` and `at` are: Truncated
-/// where `head` is short; BadLength where the field counts less than a nonce and a tag take; TooLarge where the
-/// plaintext is longer than `limit`; Truncated where the module is longer than the room.
+/// `head` holds the first four bytes of the module, or all its bytes if there are fewer than four. `room` is the number
+/// of bytes available after the length field. The errors, at `place` and file offset `at`, are checked in this order:
+/// Truncated if `head` has fewer than four bytes; BadLength if the length field is below the size of a nonce and (in
+/// GCM) a tag; TooLarge if the plaintext would exceed `limit`; Truncated if the module needs more than `room` bytes.
 pub fn extent(
     kind: ModuleKind,
     place: &Place,
@@ -29,14 +31,14 @@ pub fn extent(
     head: &[u8],
     room: u64,
 ) -> Result<u64, Refusal>
-    ensures framed { result ≡ frames.framed kind place.now at limit head.now room }
+    ensures size { result ≡ frames.frame_size kind place.now at limit head.now room }
     ensures whole { IfOk result (λ size. size ≤ 4 + room) }
     ensures limited { IfOk result (λ size. size ≤ 4 + frames.overhead kind + limit) }
     ensures least { IfOk result (λ size. 4 + frames.overhead kind ≤ size) }
-    ensures there { IfOk result (λ _. 4 ≤ length head.now) }
+    ensures head { IfOk result (λ _. 4 ≤ length head.now) }
     ensures field { IfOk result (λ size. to_le_bytes w32 (size - 4) ≡ take 4 head.now) }
     ensures quiet { Quiet result }
-    ensures causes { IfErr result (λ refusal. frames.is_frame_cause refusal.cause ≡ true) }
+    ensures causes { CausedBy frames.is_frame_cause result }
 {
     let Some(field) = head.first_chunk::<4>() else {
         return Err(refuse(Cause::Truncated, place, at, 4, head.len() as u64));
@@ -51,13 +53,13 @@ pub fn extent(
         return Err(refuse(Cause::TooLarge, place, at, plain, u64::from(limit)));
     }
     if room < counted {
-        let there = room.saturating_add(4);
-        return Err(refuse(Cause::Truncated, place, at, 4 + counted, there));
+        let available = room.saturating_add(4);
+        return Err(refuse(Cause::Truncated, place, at, 4 + counted, available));
     }
     Ok(4 + counted)
 }
 
-/// The same of a module that must take up all the room; BadLength where bytes follow it comes last.
+/// The size of a module that must take up all of `room`: as `extent`, and then BadLength if bytes follow the module.
 pub fn filling_extent(
     kind: ModuleKind,
     place: &Place,
@@ -66,14 +68,14 @@ pub fn filling_extent(
     head: &[u8],
     room: u64,
 ) -> Result<u64, Refusal>
-    ensures framed { result ≡ frames.framed_in true kind place.now at limit head.now room }
+    ensures size { result ≡ frames.checked_frame_size true kind place.now at limit head.now room }
     ensures whole { IfOk result (λ size. size ≡ 4 + room) }
     ensures limited { IfOk result (λ size. size ≤ 4 + frames.overhead kind + limit) }
     ensures least { IfOk result (λ size. 4 + frames.overhead kind ≤ size) }
-    ensures there { IfOk result (λ _. 4 ≤ length head.now) }
+    ensures head { IfOk result (λ _. 4 ≤ length head.now) }
     ensures field { IfOk result (λ size. to_le_bytes w32 (size - 4) ≡ take 4 head.now) }
     ensures quiet { Quiet result }
-    ensures causes { IfErr result (λ refusal. frames.is_frame_cause refusal.cause ≡ true) }
+    ensures causes { CausedBy frames.is_frame_cause result }
 {
     let size = extent(kind, place, at, limit, head, room)?;
     let counted = size - 4;
@@ -83,6 +85,7 @@ pub fn filling_extent(
     Ok(size)
 }
 
+/// The bytes that the length field counts in addition to the ciphertext.
 fn overhead(kind: ModuleKind) -> u64
     ensures { result ≡ frames.overhead kind }
 {

@@ -1,7 +1,6 @@
-// One module of Parquet's encryption: a length field, a nonce, a ciphertext and, in GCM, a tag. The frame says
-// how long a module is, which is then opened in place; the bytes of a GCM module change only where its tag is right.
-// A ciphertext that is too long to be held at once is checked in pieces, and then opened in pieces. Modules are written
-// to the end of a list of bytes.
+//! The encrypted modules of Parquet Modular Encryption: a length field, a nonce, a ciphertext and, in GCM, a tag. A
+//! module is decrypted in place, a GCM module only if its tag is right. A ciphertext that is too long for memory is
+//! authenticated piece by piece and then decrypted piece by piece. Modules are written to the end of a byte list.
 #![tactic(auto)]
 
 ghost use Rattle.crypto_module.specs.Opening.{OpensExactly, CtrOpensExactly, GcmReadsBack, CtrReadsBack};
@@ -18,17 +17,17 @@ pub use gcm_module::{OpenModule, read_gcm};
 pub use pieces::{Checked, Checking};
 pub use writing::{ModuleRefusal, write_ctr, write_gcm};
 
-/// The law that bytes open to a text exactly where they hold a sealed module of it.
+/// Bytes decrypt to a plaintext if and only if they hold a GCM module of that plaintext.
 pub fn opens_exactly_what_is_sealed()
     ensures { OpensExactly }
 {}
 
-/// The law that bytes open to a text exactly where they hold a CTR module of it.
+/// Bytes decrypt to a plaintext if and only if they hold a CTR module of that plaintext.
 pub fn opens_exactly_what_is_encrypted()
     ensures { CtrOpensExactly }
 {}
 
-/// The law that what is written is read back: the plaintext, the nonce and, in GCM, the tag.
+/// A written module is read back with the same plaintext, nonce and, in GCM, tag.
 pub fn reads_back_what_is_written()
     ensures gcm { GcmReadsBack }
     ensures ctr { CtrReadsBack }

@@ -1,4 +1,4 @@
-// A ciphertext that is too long to be held at once: it is hashed in pieces, and opened in pieces once its tag was right.
+// Decryption of a GCM ciphertext in pieces: all pieces are hashed first, and decrypted once the tag has been found right.
 ghost use Rattle.std.specs.Prelude.{◌≡◌, ◌+◌, ◌/◌, ◌%◌, ◌≤◌, ℕ, List, [], ◌++◌, length, length as length_of, IfOk, IfErr};
 ghost use Rattle.gcm_seal.specs.Gcm.{gctr};
 ghost use Rattle.pme_base.specs.Steps.{Quiet};
@@ -7,13 +7,13 @@ ghost use Rattle.crypto_module.specs.Pieces.{IsJoined, nothing_opened, tag_check
 
 use aes_block::AesKey;
 use gcm_seal::{Hasher, gctr_in_place};
-use pme_base::{Cause, Detail, Place, Refusal, refusal_at};
+use pme_base::{Cause, Detail, MODULE_LIMIT, Place, Refusal, refusal_at};
 use std::marker::Model;
 
-/// The counter of a text's first block: the one before is spent on the tag (SP 800-38D, section 7.1).
+/// The counter of the first ciphertext block. Counter 1 is used for the tag (SP 800-38D, section 7.1).
 const FIRST_COUNTER: u32 = 2;
 
-/// A ciphertext whose tag is being computed from its pieces, which may be cut anywhere.
+/// A ciphertext whose tag is being computed piece by piece. The pieces may have any lengths.
 #[derive(Drop)]
 pub struct Checking<'k> {
     key: &'k AesKey,
@@ -25,21 +25,22 @@ pub struct Checking<'k> {
 
 impl<'k> Model for Checking<'k> {
     ghost use Rattle.std.specs.Prelude.{◌≡◌, ◌+◌, ◌≤◌};
+    ghost use Rattle.pme_base.specs.declared.limits.TheConstants.{MODULE_LIMIT};
     ghost use Rattle.crypto_module.specs.Pieces.{Hashing};
 
     ghost Value = { Hashing };
 
     ghost view = { λ c. record { key = c.key.now; nonce = c.nonce; hashed = c.hasher; length = c.length; left = c.left } };
 
-    ghost invariant = { λ c. (c.left + c.hasher.length ≡ c.length) × (c.length ≤ 268435456) };
+    ghost invariant = { λ c. (c.left + c.hasher.length ≡ c.length) × (c.length ≤ MODULE_LIMIT) };
 }
 
 impl<'k> Checking<'k> {
-    /// Begins with a ciphertext of `length` bytes, 268,435,456 at most, and associated data of at most 4,096 bytes. No
-    /// piece has come yet.
+    /// Starts the check of a ciphertext of `length` bytes, at most 268,435,456, with associated data of at most 4,096
+    /// bytes.
     pub fn new(key: &'k AesKey, aad: &[u8], nonce: [u8; 12], length: u32) -> Checking<'k>
         requires short_aad { length_of aad.now ≤ 4096 }
-        requires short_text { length ≤ 268435456 }
+        requires short_text { length ≤ MODULE_LIMIT }
         ensures joined { IsJoined result aad.now [] }
         ensures left { result.left ≡ length }
         ensures length { result.length ≡ length }
@@ -56,17 +57,18 @@ impl<'k> Checking<'k> {
         }
     }
 
-    /// How many bytes are still to come.
+    /// The number of ciphertext bytes that have not been hashed yet.
     pub fn left(&self) -> u32
         ensures { result ≡ self.now.left }
     {
         self.left
     }
 
-    /// Hashes the next piece, which has no more bytes than are still to come.
+    /// Hashes the next piece of the ciphertext, which has at most `left()` bytes.
     pub fn piece(&mut self, ciphertext: &[u8])
         requires { length ciphertext.now ≤ self.old.left }
-        ensures joined { (aad text : List ℕ) → IsJoined self.old aad text → IsJoined self.new aad (text ++ ciphertext.now) }
+        ensures joined { (aad text : List ℕ) → IsJoined self.old aad text →
+            IsJoined self.new aad (text ++ ciphertext.now) }
         ensures left { self.new.left + length ciphertext.now ≡ self.old.left }
         ensures key { self.new.key ≡ self.old.key }
         ensures nonce { self.new.nonce ≡ self.old.nonce }
@@ -76,8 +78,8 @@ impl<'k> Checking<'k> {
         self.left -= ciphertext.len() as u32;
     }
 
-    /// The ciphertext, to be opened, once all of it has come and `stored` is its tag. Otherwise BadTag at `place` and
-    /// `at`, with the tag as computed and the tag as stored.
+    /// Ends the check when all pieces have been hashed. If `stored` is the ciphertext's tag, the result allows its
+    /// decryption; otherwise the error is BadTag at `place` and file offset `at`, with the computed tag and `stored`.
     pub fn finish(self, place: &Place, at: u64, stored: [u8; 16]) -> Result<Checked<'k>, Refusal>
         requires { self.left ≡ 0 }
         ensures answer { (aad text : List ℕ) → IsJoined self.entry aad text
@@ -103,7 +105,8 @@ impl<'k> Checking<'k> {
     }
 }
 
-/// A ciphertext whose tag was right, to be opened in pieces from its front. `Checking::finish` alone makes one.
+/// A ciphertext whose tag is right and which can be decrypted piece by piece from its front. Only `Checking::finish`
+/// makes one.
 #[derive(Drop)]
 pub struct Checked<'k> {
     key: &'k AesKey,
@@ -114,30 +117,33 @@ pub struct Checked<'k> {
 
 impl<'k> Model for Checked<'k> {
     ghost use Rattle.std.specs.Prelude.{◌≤◌};
+    ghost use Rattle.pme_base.specs.declared.limits.TheConstants.{MODULE_LIMIT};
     ghost use Rattle.crypto_module.specs.Pieces.{Opening};
 
     ghost Value = { Opening };
 
     ghost view = { λ c. record { key = c.key.now; nonce = c.nonce; length = c.length; opened = c.opened } };
 
-    ghost invariant = { λ c. c.length ≤ 268435456 };
+    ghost invariant = { λ c. c.length ≤ MODULE_LIMIT };
 }
 
 impl<'k> Checked<'k> {
-    /// How many bytes have been opened.
+    /// The number of bytes that have been decrypted.
     pub fn opened(&self) -> u32
         ensures { result ≡ self.now.opened }
     {
         self.opened
     }
 
-    /// Opens the next piece in place. The bytes opened before are whole blocks of 16, and the ciphertext has all of the
-    /// piece.
+    /// Decrypts the next piece in place. The number of bytes decrypted before must be a multiple of 16, and the piece must
+    /// not go past the end of the ciphertext.
     pub fn open(&mut self, piece: &mut [u8])
         requires aligned { self.old.opened % 16 ≡ 0 }
         requires inside { self.old.opened + length piece.old ≤ self.old.length }
-        ensures opened { piece.new ≡ gctr self.old.key self.old.nonce (2 + self.old.opened / 16) piece.old }
-        ensures counted { self.new ≡ record self.old { opened = self.old.opened + length piece.old } }
+        ensures opened { piece.new ≡ gctr self.old.key self.old.nonce
+            (2 + self.old.opened / 16) piece.old }
+        ensures counted { self.new ≡
+            record self.old { opened = self.old.opened + length piece.old } }
     {
         gctr_in_place(
             self.key,

@@ -1,3 +1,4 @@
+// Tests of module_aad.
 use module_aad::{AadRefusal, FileAad};
 use pme_base::{Place, PlaceKind};
 use std::test::Fail;

@@ -1,7 +1,8 @@
+// Tests of aes_block.
 use aes_block::{AesKey, BadKeyLength};
 use std::test::Fail;
 
-// FIPS 197, appendix C.
+// The example vectors of FIPS 197, appendix C.
 #[test]
 fn encrypts_the_example_blocks(rt: HostRuntime) -> Result<(), Fail> {
     let key = [

@@ -1,13 +1,15 @@
+// Tests of key_rights.
+use crate::drawing_maker::DrawingMaker;
 use aes_block::AesKey;
 use key_rights::{
-    ColumnKey, FooterKey, IdKeys, KeyAnswer, KeyFinder, KeysRefusal, NonceOwner, NonceRefusal,
-    NonceSet, keys_are_hex,
+    ColumnKey, FooterKey, IdKeys, KeyAnswer, KeyFinder, KeyMaker, KeysRefusal, MadeKey,
+    MakeRefusal, NonceOwner, NonceRefusal, NonceSet, keys_are_hex,
 };
-use pme_base::Bytes;
+use pme_base::{Bytes, MemRandom};
 use std::alloc::Global;
 use std::test::Fail;
 
-// A keys file, and the first id that has no key; `-` where each has one.
+// Each case: a keys file, and the first id without a valid key; `-` if all keys are valid.
 const FILES: &str = r#"
 {} -> -
 {"k":"000102030405060708090a0B0C0D0E0F"} -> -
@@ -88,7 +90,7 @@ fn a_keys_file_gives_each_id_a_key(rt: HostRuntime) -> Result<(), Fail> {
     Ok(())
 }
 
-// The first byte of the key that was found.
+// The first byte of the key in an answer.
 fn first_byte(answer: &KeyAnswer) -> Option<u8> {
     match answer {
         KeyAnswer::Held(key) => key.bytes().first().copied(),
@@ -114,5 +116,63 @@ fn keys_are_found_by_metadata_or_path(rt: HostRuntime) -> Result<(), Fail> {
     }
     let found = keys.column_key(rt.alloc(), None, "a")?;
     assert_eq!(rt; first_byte(&found), None);
+    Ok(())
+}
+
+// The first byte of a key that was made, and its metadata.
+fn made_text(alloc: Global, made: &MadeKey) -> Result<(Option<u8>, Bytes), Fail> {
+    let metadata = Bytes::copy_of(alloc, made.metadata.as_slice())?;
+    Ok((made.key.bytes().first().copied(), metadata))
+}
+
+#[test]
+fn a_keys_file_makes_its_own_keys(rt: HostRuntime) -> Result<(), Fail> {
+    let alloc = rt.alloc();
+    let mut keys = IdKeys::parse(alloc, KEYS)?;
+    let mut random = MemRandom::new(alloc, Bytes::new(alloc));
+    let mut nonces = NonceSet::new(alloc);
+    let footer = keys.make_footer(alloc, "kc", &mut random, &mut nonces)?;
+    let (first, metadata) = made_text(alloc, &footer)?;
+    assert_eq!(rt; first, Some(0x20));
+    assert_eq!(rt; metadata.as_slice(), b"kc".as_slice());
+    let column = keys.make_column(alloc, "column:a.b", &mut random, &mut nonces)?;
+    let (first, metadata) = made_text(alloc, &column)?;
+    assert_eq!(rt; first, Some(0x40));
+    assert_eq!(rt; metadata.as_slice(), b"column:a.b".as_slice());
+    let lacking = keys.make_column(alloc, "kd", &mut random, &mut nonces);
+    assert_eq!(rt; lacking.err(), Some(MakeRefusal::Denied));
+    assert!(rt; keys.external_text(alloc)?.is_none());
+    Ok(())
+}
+
+#[test]
+fn a_maker_takes_the_nonces_that_it_draws(rt: HostRuntime) -> Result<(), Fail> {
+    let alloc = rt.alloc();
+    // Two keys of sixteen bytes, each with the nonce 7 and eleven zeros; and then too few bytes for another key.
+    let mut bytes = Bytes::new(alloc);
+    for first in [1u8, 2] {
+        bytes.push(first)?;
+        bytes.extend(&[0; 15])?;
+        bytes.push(7)?;
+        bytes.extend(&[0; 11])?;
+    }
+    bytes.extend(&[0; 5])?;
+    let mut random = MemRandom::new(alloc, bytes);
+    let mut nonces = NonceSet::new(alloc);
+    let mut maker = DrawingMaker {};
+    let denied = maker.make_footer(alloc, "", &mut random, &mut nonces);
+    assert_eq!(rt; denied.err(), Some(MakeRefusal::Denied));
+    let made = maker.make_footer(alloc, "m", &mut random, &mut nonces)?;
+    let (first, metadata) = made_text(alloc, &made)?;
+    assert_eq!(rt; first, Some(1));
+    assert_eq!(rt;
+        metadata.as_slice(),
+        [7, 0, 0, 0, 0, 0, 0, 0, 0, 0, 0, 0].as_slice()
+    );
+    let repeated = maker.make_column(alloc, "m", &mut random, &mut nonces);
+    let nonce = [7, 0, 0, 0, 0, 0, 0, 0, 0, 0, 0, 0];
+    assert_eq!(rt; repeated.err(), Some(MakeRefusal::NonceRepeated(nonce)));
+    let ended = maker.make_column(alloc, "m", &mut random, &mut nonces);
+    assert_eq!(rt; ended.err(), Some(MakeRefusal::RandomFault));
     Ok(())
 }

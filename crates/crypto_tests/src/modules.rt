@@ -1,3 +1,4 @@
+// Tests of crypto_module: whole modules.
 use aes_block::AesKey;
 use crypto_module::{
     ModuleKind, ModuleRefusal, OpenModule, extent, filling_extent, read_ctr, read_gcm, write_ctr,
@@ -8,7 +9,7 @@ use std::test::Fail;
 
 const LIMIT: u32 = 16_777_216;
 
-// Test cases 1 and 2 of GCM, of a text of 0 bytes and one of 16, as modules.
+// Test cases 1 and 2 of the GCM specification, with plaintexts of 0 and 16 bytes, as modules.
 const EMPTY_TEXT: [u8; 32] = [
     28, 0, 0, 0, 0, 0, 0, 0, 0, 0, 0, 0, 0, 0, 0, 0, 88, 226, 252, 206, 250, 126, 48, 97, 54, 127,
     29, 87, 164, 231, 69, 90,
@@ -20,7 +21,7 @@ const ZERO_TEXT: [u8; 48] = [
     189, 223,
 ];
 
-// 32 zeros under the same key and nonce in counter mode alone: the standard's counter blocks 1 and 2.
+// A CTR module of 32 zero bytes with the same key and nonce: the encryption of counter blocks 1 and 2.
 const COUNTER_TEXT: [u8; 48] = [
     44, 0, 0, 0, 0, 0, 0, 0, 0, 0, 0, 0, 0, 0, 0, 0, 88, 226, 252, 206, 250, 126, 48, 97, 54, 127,
     29, 87, 164, 231, 69, 90, 3, 136, 218, 206, 96, 182, 163, 146, 243, 40, 194, 185, 113, 178,
@@ -114,19 +115,19 @@ fn refuses_bad_frames(rt: HostRuntime) {
     for (length, field, cause, first, second) in rows {
         let mut bytes = [0; 32];
         bytes[..4].copy_from_slice(&field);
-        let there: usize = length;
-        assert!(rt; there <= 32);
+        let size: usize = length;
+        assert!(rt; size <= 32);
         assert_eq!(rt;
-            open(true, &mut bytes[..there]),
+            open(true, &mut bytes[..size]),
             Err(refused(cause, first, second))
         );
     }
 }
 
 #[test]
-fn sizes_modules_without_a_tag(rt: HostRuntime) {
+fn gives_the_size_of_modules_without_a_tag(rt: HostRuntime) {
     let place = Place::loose();
-    let sized = |counted: u8, room| extent(
+    let size_with = |counted: u8, room| extent(
         ModuleKind::Ctr,
         &place,
         0,
@@ -134,9 +135,9 @@ fn sizes_modules_without_a_tag(rt: HostRuntime) {
         &[counted, 0, 0, 0],
         room,
     );
-    assert_eq!(rt; sized(12, 12), Ok(16));
-    assert_eq!(rt; sized(11, 12), Err(refused(Cause::BadLength, 11, 12)));
-    assert_eq!(rt; sized(12, 11), Err(refused(Cause::Truncated, 16, 15)));
+    assert_eq!(rt; size_with(12, 12), Ok(16));
+    assert_eq!(rt; size_with(11, 12), Err(refused(Cause::BadLength, 11, 12)));
+    assert_eq!(rt; size_with(12, 11), Err(refused(Cause::Truncated, 16, 15)));
     let filling = filling_extent(ModuleKind::Ctr, &place, 0, LIMIT, &[12, 0, 0, 0], 12);
     assert_eq!(rt; filling, Ok(16));
 }

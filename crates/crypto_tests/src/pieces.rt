@@ -1,3 +1,4 @@
+// Tests of crypto_module: decryption in pieces.
 ghost use Rattle.std.specs.Prelude.{◌≤◌};
 
 use aes_block::AesKey;
@@ -5,8 +6,8 @@ use crypto_module::{Checking, read_gcm, write_gcm};
 use pme_base::{Bytes, Place, Refusal};
 use std::test::Fail;
 
-/// Opens a module of 50 bytes of plaintext in place: its ciphertext is hashed in two pieces, the first of `hashed` bytes,
-/// and opened in two pieces, the first of `blocks` blocks.
+/// Decrypts a module with 50 bytes of plaintext in place. Its ciphertext is hashed in two pieces, the first with `hashed`
+/// bytes, and decrypted in two pieces, the first with `blocks` blocks.
 fn open_in_pieces(
     key: &AesKey,
     module: &mut [u8; 82],
@@ -40,7 +41,7 @@ fn every_cut_opens_as_the_whole_module_does(rt: HostRuntime) -> Result<(), Fail>
     };
     let mut sealed = *sealed;
     for flipped in 0..2 {
-        // First the module as it was sealed, then with a bit of its ciphertext changed.
+        // First the correct module, then the module with one changed bit in its ciphertext.
         sealed[40] ^= flipped;
         let mut whole = sealed;
         let answer = match read_gcm(&key, b"a", &Place::loose(), 7, 50, true, &mut whole) {

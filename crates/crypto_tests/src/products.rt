@@ -1,6 +1,7 @@
+// Tests of gcm_field.
 use gcm_field::{HashKey, plain_product};
 
-// Test case 2 of the GCM specification: the hash key, the ciphertext's block and their product.
+// Test case 2 of the GCM specification: the hash key, the block of the ciphertext, and their product.
 const KEY: [u8; 16] = [
     0x66, 0xe9, 0x4b, 0xd4, 0xef, 0x8a, 0x2c, 0x3b, 0x88, 0x4c, 0xfa, 0x59, 0xca, 0x34, 0x2b, 0x2e,
 ];
@@ -17,7 +18,7 @@ const PRODUCT: [u8; 16] = [
 fn first_step_of_test_case_2(rt: HostRuntime) {
     let key = HashKey::new(KEY);
     assert_eq!(rt; key.mul(BLOCK), PRODUCT);
-    // the first bit of a block is the coefficient of x^0, and 1 times the key is the key
+    // The first bit of a block is the coefficient of x^0, so that `row(8)` is the key itself.
     assert_eq!(rt; *key.row(8), KEY);
 }
 

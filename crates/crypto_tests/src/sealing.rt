@@ -1,4 +1,4 @@
-// Published vectors, and what a wrong tag leaves.
+// Tests of gcm_seal: published test vectors of GCM, and the buffer after a wrong tag.
 use aes_block::AesKey;
 use gcm_seal::{BadTag, Hasher, ctr_in_place, open_in_place, seal_in_place, sign, tag};
 use std::test::Fail;
@@ -57,7 +57,7 @@ fn first_test_cases(rt: HostRuntime) -> Result<(), Fail> {
     assert_eq!(rt; seal_in_place(&key, &[0; 12], &[], &mut buffer), TAG_2);
     assert_eq!(rt; buffer, CIPHERTEXT_2);
     assert_eq!(rt; sign(&key, &[0; 12], &[], &ZEROS), TAG_2);
-    // counter block 1 enciphers the tag of nothing
+    // The tag of the empty text without associated data is the encryption of counter block 1.
     let mut block = ZEROS;
     ctr_in_place(&key, &[0; 12], &mut block);
     assert_eq!(rt; block, TAG_1);

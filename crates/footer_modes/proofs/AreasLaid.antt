@@ -1,4 +1,4 @@
--- The layout of a footer area, by the front that was read, and the front that is read by the layout.
+-- The front of a footer area that is read is the one of the layout, and the other way round.
 use Rattle.std.proofs.Common.{◌≡◌, ℕ, ◌+◌, Bool, true, false, refl, ◌==◌, List, ◌++◌, length, take, drop, Option, Some, None, sym, ap, ◌∙◌, arith, Result, Ok, Err, length-append}
 use Rattle.std.proofs.lemmas.Bool.Decides.{nat_tests}
 use Rattle.std.proofs.lemmas.List.{take-append-drop, take_at, drop_at, length-take-le, length-drop}
@@ -23,7 +23,7 @@ use Rattle.footer_modes.specs.TailOf.{sealed_head, plain_head, head_of, signatur
 use Rattle.footer_modes.specs.IsTail.{Sealing, IsSealedArea, IsSignedArea, IsArea}
 use Rattle.footer_modes.proofs.EndsLaid.{below_drop}
 
--- how a head seals or signs
+-- what a parsed head says of the sealing or the signature
 abbrev pub sealing : List ℕ → List ℕ → Head → Sealing
 sealing key file head = record { key = key; file = file; algorithm = head.algorithm; metadata = head.metadata }
 
@@ -93,7 +93,7 @@ pub area_is : (allow_plain : Bool) (magic : Magic) (key file plain : List ℕ) (
 area_is allow_plain Pare key file plain data_end area head each h p = sealed_area allow_plain key file plain data_end area head each h p
 area_is allow_plain Par1 key file plain data_end area head each h p = signed_area allow_plain key file plain data_end area head h p
 
--- an area that is laid out so is read to what it holds
+-- an area that is laid out as the format says is read as such
 pub record Reads (allow_plain : Bool) (magic : Magic) (s : Sealing) (plain : List ℕ) (front data_end : ℕ) (area : List ℕ) : Type 0 where
   pub head : head_of allow_plain magic data_end area ≡ Ok (Protected (record { algorithm = s.algorithm; metadata = s.metadata; size = front }))
   pub bytes : plain_of magic s.key s.file (data_end + front) front area ≡ Ok plain
@@ -128,7 +128,7 @@ pub area_reads : (allow_plain : Bool) (magic : Magic) (s : Sealing) (plain : Lis
 area_reads allow_plain Pare s plain front data_end area laid = sealed_reads allow_plain s plain front data_end area laid
 area_reads allow_plain Par1 s plain front data_end area laid = signed_reads allow_plain s plain front data_end area laid
 
--- an unencrypted footer
+-- likewise for an unencrypted footer
 pub record IsBareHead (allow_plain : Bool) (magic : Magic) (area : List ℕ) (size : ℕ) : Type 0 where
   pub magic_is : magic ≡ Par1
   pub allowed : allow_plain ≡ true

@@ -1,4 +1,4 @@
--- The ends of a file whose footer area was closed.
+-- The ends of a file whose tail was written.
 use Rattle.std.proofs.Common.{◌≡◌, ℕ, ◌+◌, ◌-◌, ◌≤◌, nat_lt, false, min, List, ◌++◌, length, take, drop, refl, sym, ap, ◌∙◌, arith, Ok, length-append, append_assoc}
 use Rattle.std.proofs.lemmas.Bool.{le-ltb}
 use Rattle.std.proofs.lemmas.Bool.Decides.{nat_tests}
@@ -70,7 +70,7 @@ ends_closed magic before area first small =
     let long : nat_lt size 12 ≡ false = le-ltb _ _ (omega arith) in
     rw long (rw last (within_is magic size (length before) count (take 4 bytes) back front magic_is count_is size_is room small))
 
--- and its footer area
+-- its footer area
 pub area_closed : (magic : Magic) (before area : List ℕ) → area_of (ends_with magic (length before) (length area)) (before ++ closed magic area) ≡ area
 area_closed magic before area =
     let back = to_le_bytes w32 (length area) ++ magic_bytes magic in

@@ -1,4 +1,4 @@
--- What the ends of a file tell of its bytes, and the ends of bytes that are laid out so.
+-- The ends of a file determine its layout, and bytes of this layout have these ends.
 use Rattle.std.proofs.Common.{◌≡◌, ℕ, zero, suc, lit<, ◌+◌, ◌-◌, ◌≤◌, Bool, true, false, if◌then◌else◌, nat_lt, List, [], ◌∷◌, ◌++◌, length, take, drop, refl, sym, ap, ◌∙◌, subst, arith, Ok, Err, length-append}
 use Rattle.std.proofs.lemmas.Bool.{le-ltb}
 use Rattle.std.proofs.lemmas.Bool.Decides.{nat_tests}
@@ -41,7 +41,7 @@ magic_is at marks magic e =
 begins_is : (magic : Magic) (front : List ℕ) (u : Unit) → begins magic front ≡ Ok u → front ≡ magic_bytes magic
 begins_is magic front u e = (bytes_eq-Decides front (magic_bytes magic)).0 (tested (bytes_eq front (magic_bytes magic)) tt u _ e).0
 
--- an area that is there
+-- an area that lies within the file
 record IsArea (size : ℕ) (magic : Magic) (count : ℕ) (ends : Ends) : Type 0 where
   pub magic_is : ends.magic ≡ magic
   pub area_is : ends.area ≡ count
@@ -116,7 +116,7 @@ ends_cut bytes ends each are =
     ∙ ap (λ t. take ends.data_end bytes ++ t) (sym (take-append-drop ends.area (drop ends.data_end bytes))
     ∙ ap (λ t. area_of ends bytes ++ t) (rest ∙ back_is ∙ ap (λ k. to_le_bytes w32 k ++ magic_bytes ends.magic) (sym long)))
 
--- bytes that are laid out so
+-- bytes of this layout have these ends
 magic_length : (magic : Magic) → length (magic_bytes magic) ≡ 4
 magic_length Pare = refl
 magic_length Par1 = refl

@@ -1,4 +1,4 @@
--- How long the parts of a written tail are.
+-- The lengths of the parts of a written tail.
 use Rattle.std.proofs.Common.{◌≡◌, ℕ, ◌+◌, ◌||◌, nat_lt, List, ◌++◌, length, codes, ap, ◌∙◌, arith, append_assoc, Result, Ok, Err, OnOk, length-append}
 use Rattle.std.specs.Int.{w32, to_le_bytes}
 use Rattle.gcm_seal.specs.Gcm.{gctr}
@@ -22,7 +22,7 @@ signed_area_length key file nonce footer twelve =
     let sixteen : length tag ≡ 16 = length-tag_of key nonce (aad file footer_place) (gctr key nonce 2 footer) in
     omega (arith, length-append footer (nonce ++ tag), length-append nonce tag)
 
--- an area is too large by the bytes that it has
+-- an area is over the limit exactly if the sum of its parts is
 pub too_large_encrypted : (key file nonce crypto footer : List ℕ) → length nonce ≡ 12
     → is_too_large footer (encrypted_area key file nonce crypto footer) ≡ (nat_lt 16777216 (length footer) || nat_lt 16842752 (length footer + (length crypto + 32)))
 too_large_encrypted key file nonce crypto footer twelve =
@@ -35,7 +35,7 @@ pub too_large_signed : (key file nonce footer : List ℕ) → length nonce ≡ 1
 too_large_signed key file nonce footer twelve =
     ap (λ n. nat_lt 16777216 (length footer) || nat_lt 16842752 n) (signed_area_length key file nonce footer twelve)
 
--- an encrypted tail that was added part by part
+-- an encrypted tail that was appended part by part
 pub encrypted_tail_added : {E : Type 0} (result : Result Unit E) (key file nonce base crypto footer opened sealed counted whole : List ℕ) (count : ℕ) → length nonce ≡ 12
     → opened ≡ base ++ crypto → sealed ≡ encrypted_area key file nonce opened footer → count ≡ length crypto + 32 + length footer
     → counted ≡ sealed ++ to_le_bytes w32 count → OnOk result (whole ≡ counted ++ codes "PARE")

@@ -1,4 +1,4 @@
--- The parts of a footer's module or signature, by the bytes of its file.
+-- The parts of a footer's module or signature in the bytes of its file.
 use Rattle.std.proofs.Common.{◌≡◌, ℕ, ◌+◌, ◌-◌, ◌≤◌, Bool, true, List, length, take, drop, Some, None, refl, sym, ap, ◌∙◌, subst, arith, Ok}
 use Rattle.std.proofs.lemmas.List.{drop-take, drop-drop, take-take, take_all, length-take-le, length-drop}
 use Rattle.std.proofs.lemmas.Slice.Eq.{bytes_eq-Decides}
@@ -33,7 +33,7 @@ use Rattle.footer_modes.proofs.EndsLaid.{AreEnds, area_length}
 use Rattle.footer_modes.proofs.StepsTaken.{ProtectedSteps, StepsBy, steps_taken}
 use Rattle.footer_modes.proofs.TailsLaid.{same_magic}
 
--- where the footer's module or signature stands in the bytes of the file, and what comes before it
+-- the offset of the footer's module or signature in the file, and the bytes before it
 area_rest : (bytes : List ℕ) (ends : Ends) (size : ℕ) → AreEnds bytes ends → size ≤ ends.area
     → drop size (area_of ends bytes) ≡ take (length bytes - 8 - (ends.data_end + size)) (drop (ends.data_end + size) bytes)
 area_rest bytes ends size are within =
@@ -90,7 +90,7 @@ within_area allow_plain Pare key file plain data_end at area head h p =
     omega (arith, (open_module key (aad file footer_place) plain (drop head.size area) at p).least, length-drop head.size area)
 within_area allow_plain Par1 key file plain data_end at area head h p = omega (arith, signed_size allow_plain data_end area head h)
 
--- what the bytes of an area are in the file of the tail
+-- the bytes of an area in the file of the tail
 record StandsIn (tail : Tail) (bytes : List ℕ) (size : ℕ) (area : List ℕ) : Type 0 where
   pub rest : drop size area ≡ module_of tail bytes
   pub front : take size area ≡ signed_bytes tail bytes

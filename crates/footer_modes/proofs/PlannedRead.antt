@@ -1,4 +1,4 @@
--- A tail that was written of a plan is read.
+-- A tail that was written from a plan is read back.
 use Rattle.std.proofs.Common.{◌≡◌, ℕ, ◌+◌, false, List, [], ◌++◌, length, refl, sym, ap, ◌∙◌, Some, Result, Ok, Err}
 use Rattle.std.proofs.lemmas.List.{append-nil}
 use Rattle.pme_base.specs.declared.refusal.Refusal.{Refusal}
@@ -20,7 +20,7 @@ use Rattle.footer_modes.specs.WrittenRead.{CanOpen, Begins, tail_with}
 use Rattle.footer_modes.specs.PlannedRead.{footer_bytes, crypto_bytes, IsPlan}
 use Rattle.footer_modes.proofs.WrittenRead.{encrypted_read, signed_read}
 
--- a footer that is read with its size, and then taken alone
+-- a footer that is parsed with its size, and the footer alone
 abbrev with_size : ℕ → FileMeta → Result (FileMeta × ℕ) Refusal
 with_size n file = Ok (file, n)
 

@@ -11,12 +11,12 @@ use Rattle.pme_base.proofs.Chain.{err_same, bind_refused}
 use Rattle.gcm_seal.specs.Gcm.{gctr, tag_of}
 use Rattle.crypto_module.specs.declared.frame.ModuleKind.{ModuleKind}
 use Rattle.crypto_module.specs.declared.frame.ModuleKind.TheVariants.{Gcm}
-use Rattle.crypto_module.specs.Frames.{overhead, sized, framed, filled, gcm_size}
+use Rattle.crypto_module.specs.Frames.{overhead, counted_size, frame_size, check_fill, gcm_size}
 use Rattle.crypto_module.specs.Modules.{nonce_of, cipher_of, stored_of}
 use Rattle.crypto_module.specs.Opening.{unsealed_whole, opened}
 
 module _ {T : Type 0} (place : Place) where
-  -- a refusal where a test holds, and what comes else
+  -- a choice between a refusal and a further result
   refused_or : (b : Bool) (x r : Refusal) (rest : Result T Refusal) → x.place ≡ place → (rest ≡ Err r → r.place ≡ place)
       → (if b then Err x else rest) ≡ Err r → r.place ≡ place
   refused_or true x r rest here later e = ap (λ (y : Refusal). y.place) (sym (err_same {T = T} x r e)) ∙ here
@@ -36,18 +36,18 @@ three_tests place false true c x y z r n first second third e = ap (λ (w : Refu
 three_tests place false false true x y z r n first second third e = ap (λ (w : Refusal). w.place) (sym (err_same {T = ℕ} z r e)) ∙ third
 three_tests place false false false x y z r n first second third e = cc
 
-sized_at : (kind : ModuleKind) (place : Place) (at limit n room : ℕ) (r : Refusal) → sized kind place at limit n room ≡ Err r → r.place ≡ place
+sized_at : (kind : ModuleKind) (place : Place) (at limit n room : ℕ) (r : Refusal) → counted_size kind place at limit n room ≡ Err r → r.place ≡ place
 sized_at kind place at limit n room r e =
     three_tests place (nat_lt n (overhead kind)) (nat_lt limit (n - overhead kind)) (nat_lt room n)
     (pair_refusal BadLength place at n room) (pair_refusal TooLarge place at (n - overhead kind) limit)
     (pair_refusal Truncated place at (4 + n) (min (4 + room) (2 ^ 64 - 1))) r (4 + n) refl refl refl e
 
-framed_at : (kind : ModuleKind) (place : Place) (at limit : ℕ) (head : List ℕ) (room : ℕ) (r : Refusal) → framed kind place at limit head room ≡ Err r → r.place ≡ place
+framed_at : (kind : ModuleKind) (place : Place) (at limit : ℕ) (head : List ℕ) (room : ℕ) (r : Refusal) → frame_size kind place at limit head room ≡ Err r → r.place ≡ place
 framed_at kind place at limit head room r e =
     refused_or place (nat_lt (length head) 4) (pair_refusal Truncated place at 4 (length head)) r
-    (sized kind place at limit (from_le_bytes w32 (take 4 head)) room) refl (sized_at kind place at limit (from_le_bytes w32 (take 4 head)) room r) e
+    (counted_size kind place at limit (from_le_bytes w32 (take 4 head)) room) refl (sized_at kind place at limit (from_le_bytes w32 (take 4 head)) room r) e
 
-filled_at : (fill : Bool) (place : Place) (at room size : ℕ) (r : Refusal) → filled fill place at room size ≡ Err r → r.place ≡ place
+filled_at : (fill : Bool) (place : Place) (at room size : ℕ) (r : Refusal) → check_fill fill place at room size ≡ Err r → r.place ≡ place
 filled_at fill place at room size r e =
     refused_or place (fill && nat_lt (size - 4) room) (pair_refusal BadLength place at (size - 4) room) r (Ok size) refl (no_refusal size place r) e
 
@@ -61,7 +61,7 @@ pub opened_at : (key associated : List ℕ) (place : Place) (at limit : ℕ) (fi
     → opened key associated place at limit fill bytes ≡ Err r → r.place ≡ place
 opened_at key associated place at limit fill bytes r e =
     bind_refused (r.place ≡ place) (gcm_size place at limit fill bytes) (λ size. unsealed_whole key associated place at (take size bytes)) r e
-    (λ f. bind_refused (r.place ≡ place) (framed Gcm place at limit (take 4 bytes) (length bytes - 4)) (filled fill place at (length bytes - 4)) r f
+    (λ f. bind_refused (r.place ≡ place) (frame_size Gcm place at limit (take 4 bytes) (length bytes - 4)) (check_fill fill place at (length bytes - 4)) r f
     (framed_at Gcm place at limit (take 4 bytes) (length bytes - 4) r)
     (λ size is g. filled_at fill place at (length bytes - 4) size r g))
     (λ size is g. unsealed_at key associated place at (take size bytes) r g)

@@ -1,4 +1,4 @@
--- The steps by which a tail was read, from the tail that came of them.
+-- A tail that was read: the results of the steps that led to it.
 use Rattle.std.proofs.Common.{◌≡◌, ℕ, ◌+◌, List, take, Ok}
 use Rattle.pme_base.specs.declared.refusal.Refusal.{Refusal}
 use Rattle.pme_base.proofs.Chain.{ok_same, bind_ok}

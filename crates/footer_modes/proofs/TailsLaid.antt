@@ -1,4 +1,4 @@
--- The tail that is defined by reading is the one that the format lays out.
+-- The tail that reading defines is the one that the format lays out.
 use Rattle.std.proofs.Common.{◌≡◌, ℕ, ◌+◌, ◌≤◌, Bool, true, false, ◌&&◌, nat_lt, List, ◌++◌, length, take, drop, Option, Some, None, IfSome, refl, sym, ap, ◌∙◌, subst, arith, Ok}
 use Rattle.std.proofs.lemmas.Bool.{le-ltb}
 use Rattle.std.proofs.lemmas.List.{take-take, length-take-le}
@@ -201,7 +201,7 @@ laid_if_read asks bytes tail each e =
     let taken = steps_taken asks bytes tail e in
     laid_by asks bytes tail taken.ends taken.head each taken.are taken.head_is taken.steps
 
--- only an unencrypted footer has no protection, and none is read without the flag
+-- only an unencrypted footer has no protection, and none is read without `allow_plain`
 never_bare : (magic : Magic) → magic_mode magic ≡ Unencrypted → ⊥
 never_bare Pare e = cc
 never_bare Par1 e = cc

@@ -1,4 +1,4 @@
--- From the ends of a told file and its footer area to what comes of the area.
+-- From the ends of a file whose bytes contracts see, and its footer area, to the result for the whole file.
 use Rattle.std.proofs.Common.{◌≡◌, ℕ, List, [], Option, Some, None, unwrap_or, IfSome, IfOk, Result, Ok, Err, refl, sym, ◌∙◌, ap}
 use Rattle.std.specs.FinMap.{get}
 use Rattle.pme_base.specs.declared.refusal.Refusal.{Refusal}
@@ -11,7 +11,7 @@ use Rattle.footer_modes.specs.IsTail.{IsTail}
 use Rattle.footer_modes.proofs.TailsLaid.{laid_if_read}
 use Rattle.footer_modes.specs.Ends.{IsInside, ends_of, file_ends, area_of}
 
--- a step on the area is the whole's on a file's bytes
+-- the result of a step on the area is the result for the whole file
 abbrev pub Continues : {T : Type 0} → (Ends → List ℕ → Result T Refusal) → (Option (List ℕ) → Result T Refusal) → Type 0
 Continues next whole = (bytes : List ℕ) → whole (Some bytes) ≡ (ends_of bytes >>= λ ends. next ends (area_of ends bytes))
 
@@ -30,7 +30,7 @@ pub of_told : {T : Type 0} (next : Ends → List ℕ → Result T Refusal) (whol
 of_told next whole c None name ends area result e i a r = tt
 of_told next whole c (Some files) name ends area result e i a r = of_file next whole c (get files name) ends area result e i a r
 
--- a tail that was answered of a told file is the one that the file's bytes lay out
+-- a tail that was returned for a file is the one that the file's bytes lay out
 laid_of_file : (asks : Asks) (file : Option (List ℕ)) (tail : Tail) → ((bytes : List ℕ) → file ≡ Some bytes → AreBytes bytes) → file_tail asks file ≡ Ok tail
     → IfSome file (λ bytes. IsTail asks bytes tail)
 laid_of_file asks None tail each e = tt

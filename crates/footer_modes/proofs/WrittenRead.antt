@@ -1,4 +1,4 @@
--- A tail that was written is read.
+-- A tail that was written is read back.
 use Rattle.std.proofs.Common.{◌≡◌, ℕ, ◌+◌, ◌≤◌, nat_lt, ◌==◌, Bool, false, true, List, [], ◌++◌, length, take, drop, refl, sym, ap, ◌∙◌, arith, Option, Some, None, Ok}
 use Rattle.std.proofs.lemmas.Bool.Decides.{nat_tests}
 use Rattle.std.proofs.lemmas.List.{append-nil, take_at, drop_at}
@@ -26,14 +26,14 @@ use Rattle.footer_modes.proofs.Ended.{ends_with, ends_closed, area_closed}
 use Rattle.footer_modes.proofs.Lengths.{signed_area_length}
 use Rattle.footer_modes.proofs.AreasLaid.{bare_reads}
 
--- an area within the limit, and a footer within its own
+-- an area within the limit has a footer within its own limit
 small_area : (plain area : List ℕ) → is_too_large plain area ≡ false → nat_lt 16842752 (length area) ≡ false
 small_area plain area small = grind (arith, nat_tests)
 
 small_footer : (plain area : List ℕ) → is_too_large plain area ≡ false → length plain ≤ 16777216
 small_footer plain area small = grind (arith, nat_tests)
 
--- the tail of a closed area is that of the area
+-- the tail of a file is the tail of its footer area
 tail_closed : (asks : Asks) (magic : Magic) (before area : List ℕ) → Begins magic before → nat_lt 16842752 (length area) ≡ false
     → tail_of asks (before ++ closed magic area) ≡ area_tail asks magic (length before) area
 tail_closed asks magic before area first small =

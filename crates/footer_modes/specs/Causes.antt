@@ -1,38 +1,34 @@
--- The causes of the refusals of each step, and when a key finder failed.
+-- The causes with which each step of reading a tail can end; when a key finder failed, and when a file gave fewer bytes
+-- than its size.
 use Rattle.std.specs.Prelude.{◌≡◌, ◌⊎◌, ℕ, ◌<◌, ◌≤◌, Bool, true, false, Result, IfErr}
 use Rattle.pme_base.specs.declared.refusal.Cause.{Cause}
-use Rattle.pme_base.specs.declared.refusal.Cause.TheVariants.{Truncated, BadLength, BadTag, BadMagic, BadMaterial, NoMaterial, WrapTag, KeyLength, BadFooterLength, NotEncrypted, PrefixNeeded, PrefixUnused, PrefixDiffers, FooterKeyMissing, AlgorithmRefused, TooLarge, NoFile, ReadFault, ServiceFault, OutOfMemory}
+use Rattle.pme_base.specs.declared.refusal.Cause.TheVariants.{Truncated, BadLength, BadTag, BadMagic, BadMaterial, NoMaterial, WrapTag, KeyLength, BadFooterLength, NotEncrypted, PrefixNeeded, PrefixUnused, PrefixDiffers, FooterKeyMissing, AlgorithmRefused, TooLarge, ServiceFault, OutOfMemory}
 use Rattle.pme_base.specs.declared.refusal.Refusal.{Refusal}
 use Rattle.pme_base.specs.declared.place.Place.{Place}
 use Rattle.pme_base.specs.Refusals.{pair_refusal}
+use Rattle.pme_base.specs.Causes.{either}
 use Rattle.pme_base.specs.Counts.{Rose}
+use Rattle.pme_base.specs.Reading.{is_reading_cause}
 use Rattle.key_rights.specs.Finding.{is_key_cause}
 use Rattle.parquet_fields.specs.Causes.{is_struct_cause}
 use Rattle.parquet_meta.specs.Footer.{is_file_cause}
 use Rattle.footer_modes.specs.Ends.{file_place, footer_place}
 
--- of reading a given number of bytes
-abbrev pub is_short_cause : Cause → Bool
-is_short_cause Truncated = true
-is_short_cause ReadFault = true
-is_short_cause OutOfMemory = true
-is_short_cause _ = false
-
--- of the ends of a file
+-- reading the ends of a file, or the bytes of its footer area
 abbrev pub is_ends_cause : Cause → Bool
-is_ends_cause NoFile = true
 is_ends_cause BadMagic = true
 is_ends_cause BadFooterLength = true
 is_ends_cause TooLarge = true
-is_ends_cause cause = is_short_cause cause
+is_ends_cause Truncated = true
+is_ends_cause cause = is_reading_cause cause
 
--- of what stands at the front of the area
+-- parsing the front of the footer area
 abbrev pub is_head_cause : Cause → Bool
 is_head_cause NotEncrypted = true
 is_head_cause BadFooterLength = true
 is_head_cause cause = is_struct_cause cause
 
--- of the associated data
+-- forming the associated data
 abbrev pub is_aad_cause : Cause → Bool
 is_aad_cause TooLarge = true
 is_aad_cause PrefixNeeded = true
@@ -41,14 +37,14 @@ is_aad_cause PrefixDiffers = true
 is_aad_cause OutOfMemory = true
 is_aad_cause _ = false
 
--- of the footer's key
+-- finding the footer's key
 abbrev pub is_footer_key_cause : Cause → Bool
 is_footer_key_cause FooterKeyMissing = true
 is_footer_key_cause ServiceFault = true
 is_footer_key_cause OutOfMemory = true
 is_footer_key_cause cause = is_key_cause cause
 
--- of a footer area
+-- opening a footer area
 abbrev pub is_area_cause : Cause → Bool
 is_area_cause NotEncrypted = true
 is_area_cause BadFooterLength = true
@@ -67,20 +63,13 @@ is_area_cause BadLength = true
 is_area_cause BadTag = true
 is_area_cause cause = is_file_cause cause
 
--- of a whole tail, and of the metadata of the footer's key
+-- reading a tail
 abbrev pub is_tail_cause : Cause → Bool
-is_tail_cause NoFile = true
-is_tail_cause BadMagic = true
-is_tail_cause ReadFault = true
-is_tail_cause cause = is_area_cause cause
+is_tail_cause = either is_ends_cause is_area_cause
 
+-- reading the metadata of the footer's key
 abbrev pub is_metadata_cause : Cause → Bool
-is_metadata_cause NoFile = true
-is_metadata_cause BadMagic = true
-is_metadata_cause TooLarge = true
-is_metadata_cause Truncated = true
-is_metadata_cause ReadFault = true
-is_metadata_cause cause = is_head_cause cause
+is_metadata_cause = either is_ends_cause is_head_cause
 
 -- ServiceFault comes only where the number of the finder's failed calls rose
 pub record FinderFails {T : Type 0} (before now : ℕ) (result : Result T Refusal) : Type 0 where

@@ -3,6 +3,7 @@
 use Rattle.std.specs.Prelude.{◌≡◌, ℕ, ◌+◌, ◌-◌, ◌^◌, ◌<◌, nat_lt, if◌then◌else◌, List, length, take, drop, codes, Option, Some, None, Result, Ok, Err}
 use Rattle.std.specs.Int.{w32, from_le_bytes}
 use Rattle.std.specs.Str.{bytes_eq}
+use Rattle.pme_base.specs.declared.limits.TheConstants.{FOOTER_AREA_LIMIT}
 use Rattle.pme_base.specs.declared.place.Place.{Place}
 use Rattle.pme_base.specs.declared.place.PlaceKind.TheVariants as kind_of
 use Rattle.pme_base.specs.declared.refusal.Cause.TheVariants.{Truncated, BadMagic, BadFooterLength, TooLarge, NoFile}
@@ -17,7 +18,7 @@ use Rattle.footer_modes.specs.declared.mode.FooterMode.TheVariants.{Encrypted, S
 use Rattle.footer_modes.specs.declared.mode.Magic.{Magic}
 use Rattle.footer_modes.specs.declared.mode.Magic.TheVariants.{Pare, Par1}
 
--- the file as a whole, and its footer
+-- the places of the file as a whole and of its footer
 abbrev pub file_place : Place
 file_place = place_of kind_of.File 0 0 0
 
@@ -50,7 +51,7 @@ known_magic at bytes =
     else if bytes_eq bytes (codes "PAR1") then Ok Par1
     else Err (bad_magic at)
 
--- the first magic is the same as the last
+-- the first magic must be the last
 abbrev pub begins : Magic → List ℕ → Result Unit Refusal
 begins magic front = if bytes_eq front (magic_bytes magic) then Ok tt else Err (bad_magic 0)
 
@@ -58,7 +59,7 @@ begins magic front = if bytes_eq front (magic_bytes magic) then Ok tt else Err (
 abbrev pub area_at : ℕ → Magic → ℕ → Result Ends Refusal
 area_at size magic count =
     if nat_lt (size - 12) count then Err (pair_refusal BadFooterLength footer_place (size - 8) count (size - 12))
-    else if nat_lt 16842752 count then Err (pair_refusal TooLarge footer_place (size - 8) count 16842752)
+    else if nat_lt FOOTER_AREA_LIMIT count then Err (pair_refusal TooLarge footer_place (size - 8) count FOOTER_AREA_LIMIT)
     else Ok (record { magic = magic; data_end = size - 8 - count; area = count })
 
 -- the ends of a file of this size, by its first four and its last eight bytes
@@ -73,12 +74,12 @@ ends_of bytes =
     if nat_lt (length bytes) 12 then Err (pair_refusal Truncated file_place 0 12 (length bytes))
     else ends_within (length bytes) (take 4 bytes) (take 8 (drop (length bytes - 8) bytes))
 
--- of a file that may not be there
+-- the ends of a file, which may not exist
 abbrev pub file_ends : Option (List ℕ) → Result Ends Refusal
 file_ends None = Err (plain_refusal NoFile)
 file_ends (Some bytes) = ends_of bytes
 
--- the file has the area and what follows it, and its length is a number of 64 bits
+-- the file is long enough for the area and the eight bytes after it, and shorter than 2^64 bytes
 pub record IsInside (ends : Ends) (bytes : List ℕ) : Type 0 where
   pub small : length bytes < 2 ^ 64
   pub size : ends.data_end + ends.area + 8 ≡ length bytes

@@ -1,4 +1,4 @@
--- The nonce, ciphertext and tag of the footer's module or signature, as they stand in the file.
+-- The nonce, ciphertext and tag that a file stores for its footer: those of the footer's module, or of its signature.
 use Rattle.std.specs.Prelude.{◌≡◌, ℕ, ◌+◌, ◌-◌, ◌≤◌, List, length, take, drop, Some, IfSome, Ok}
 use Rattle.gcm_seal.specs.Gcm.{gctr, tag_of}
 use Rattle.module_aad.specs.Aad.{aad}
@@ -27,8 +27,8 @@ module_of tail bytes = take (length bytes - 8 - tail.at) (drop tail.at bytes)
 abbrev pub signed_bytes : Tail → List ℕ → List ℕ
 signed_bytes tail bytes = take (tail.at - tail.data_end) (drop tail.data_end bytes)
 
--- an encrypted footer's module has the parts; those of a signed footer are its own bytes in counter mode, as sealing
--- them would give, and its signature
+-- the parts of an encrypted footer are those of its module; the parts of a signed footer are its signature, and the ciphertext
+-- that sealing its bytes gives
 abbrev pub parts_by : Magic → Tail → Protection → List ℕ → FooterParts
 parts_by Pare tail protection bytes = record {
   nonce = nonce_of (module_of tail bytes);
@@ -51,8 +51,8 @@ footer_parts tail protection bytes = parts_by (magic_of tail.mode) tail protecti
 abbrev pub parts_plain : Protection → FooterParts → List ℕ
 parts_plain protection parts = gctr protection.footer_key parts.nonce 2 parts.ciphertext
 
--- the stored tag is the tag of the other parts under the footer key and the associated data of the footer, and their plaintext is
--- the footer's bytes, which the footer is read from
+-- the stored tag is the tag of the other parts under the footer key and the associated data of the footer, their plaintext is the
+-- footer's bytes, and the footer is parsed from these
 pub record FixFooter (tail : Tail) (protection : Protection) (parts : FooterParts) : Type 0 where
   pub nonce_length : length parts.nonce ≡ 12
   pub tag_length : length parts.tag ≡ 16
@@ -60,7 +60,7 @@ pub record FixFooter (tail : Tail) (protection : Protection) (parts : FooterPart
   pub plain : parts_plain protection parts ≡ tail.footer_bytes
   pub footer : footer_of (parts_plain protection parts) ≡ Ok tail.footer
 
--- the parts of a protected tail that was read fix its footer, whatever the file's bytes are
+-- the parts of a tail that was read determine its footer, for any bytes of the file
 abbrev pub PartsFixFooters : Type 0
 PartsFixFooters =
     (asks : Asks) (bytes : List ℕ) (tail : Tail) (protection : Protection) → tail_of asks bytes ≡ Ok tail → tail.protection ≡ Some protection
@@ -75,6 +75,6 @@ pub record IsPlaced (tail : Tail) (bytes : List ℕ) : Type 0 where
 abbrev pub TailsArePlaced : Type 0
 TailsArePlaced = (asks : Asks) (bytes : List ℕ) (tail : Tail) → tail_of asks bytes ≡ Ok tail → IsPlaced tail bytes
 
--- the footer of a tail that was read has the shape that the rules ask for
+-- the footer of a tail that was read has the shape that the rules demand
 abbrev pub ReadTailsAreShaped : Type 0
 ReadTailsAreShaped = (asks : Asks) (bytes : List ℕ) (tail : Tail) → tail_of asks bytes ≡ Ok tail → IsShaped tail.footer

@@ -2,6 +2,7 @@
 -- footer mode"), as a relation between the bytes of the file and the tail that a reader has of them.
 use Rattle.std.specs.Prelude.{◌≡◌, ◌↔◌, ℕ, ◌+◌, ◌≤◌, Bool, true, false, List, [], ◌++◌, length, take, drop, Option, Some, None, IfSome, IsSome, Ok}
 use Rattle.std.specs.Int.{w32, to_le_bytes}
+use Rattle.pme_base.specs.declared.limits.TheConstants.{FOOTER_AREA_LIMIT, FOOTER_LIMIT, PREFIX_LIMIT}
 use Rattle.gcm_seal.specs.Gcm.{seal}
 use Rattle.module_aad.specs.Aad.{aad}
 use Rattle.crypto_module.specs.Modules.{IsGcm}
@@ -20,7 +21,7 @@ use Rattle.footer_modes.specs.declared.tail.Protection.{Protection}
 use Rattle.footer_modes.specs.Ends.{footer_place, magic_bytes, magic_of}
 use Rattle.footer_modes.specs.TailOf.{Asks, crypto_of, are_plain, tail_of}
 
--- the prefix of the associated data, where the file stores this, asks for a supplied one or not, and this is supplied
+-- the prefix of the associated data, by the prefix that the file stores, whether it asks for a supplied one, and what is supplied
 abbrev pub IsPrefix : Option (List ℕ) → Bool → Option (List ℕ) → List ℕ → Type 0
 IsPrefix (Some stored) supply None prefix = prefix ≡ stored
 IsPrefix (Some stored) supply (Some supplied) prefix = (prefix ≡ stored) × (prefix ≡ supplied)
@@ -33,11 +34,11 @@ IsPrefix None false None prefix = prefix ≡ []
 pub record IsFileAad (algorithm : AlgorithmMeta) (supplied : Option (List ℕ)) (file : List ℕ) : Type 0 where
   pub prefix : List ℕ
   pub prefix_is : IsPrefix algorithm.prefix algorithm.supply supplied prefix
-  pub stored_short : IfSome algorithm.prefix (λ stored. length stored ≤ 1024)
+  pub stored_short : IfSome algorithm.prefix (λ stored. length stored ≤ PREFIX_LIMIT)
   pub unique_short : length algorithm.unique ≤ 64
   pub joined : file ≡ prefix ++ algorithm.unique
 
--- how a footer is sealed or signed: the key, the file AAD, the algorithm, and the metadata of the key
+-- what a footer is sealed or signed with: the key, the file AAD, the algorithm, and the metadata of the key
 pub record Sealing : Type 0 where
   pub key : List ℕ
   pub file : List ℕ
@@ -47,7 +48,7 @@ pub record Sealing : Type 0 where
 -- the area of an encrypted footer: `front` bytes that hold FileCryptoMetaData, and the footer's module
 pub record IsSealedArea (s : Sealing) (plain : List ℕ) (front : ℕ) (area : List ℕ) : Type 0 where
   pub crypto : file_crypto_at footer_place area ≡ Ok (record { algorithm = s.algorithm; key_metadata = s.metadata }, front)
-  pub sealed : IsGcm s.key (aad s.file footer_place) plain 16777216 (drop front area)
+  pub sealed : IsGcm s.key (aad s.file footer_place) plain FOOTER_LIMIT (drop front area)
 
 -- the area of a signed footer: its own bytes, a nonce, and the tag of sealing those bytes
 pub record IsSignedArea (s : Sealing) (plain : List ℕ) (front : ℕ) (area : List ℕ) : Type 0 where
@@ -87,7 +88,7 @@ pub record IsBare (asks : Asks) (tail : Tail) (area : List ℕ) : Type 0 where
   pub at : tail.at ≡ tail.data_end
   pub chunks : are_plain tail.footer.groups ≡ true
 
--- the footer area by its mode; only an unencrypted footer has no protection
+-- the footer area of each mode; only an unencrypted footer has no protection
 abbrev pub IsFooterArea : Asks → Tail → FooterMode → Option Protection → List ℕ → Type 0
 IsFooterArea asks tail Encrypted (Some protection) area = IsProtected asks tail protection Pare area
 IsFooterArea asks tail Signed (Some protection) area = IsProtected asks tail protection Par1 area
@@ -96,34 +97,34 @@ IsFooterArea asks tail Encrypted None area = ⊥
 IsFooterArea asks tail Signed None area = ⊥
 IsFooterArea asks tail Unencrypted (Some protection) area = ⊥
 
--- a file of these bytes ends with this tail, and a reader who asks so accepts it
+-- a file of these bytes ends with this tail, and the reader accepts it
 pub record IsTail (asks : Asks) (bytes : List ℕ) (tail : Tail) : Type 0 where
   -- the data and the footer area
   pub before : List ℕ
   pub area : List ℕ
   pub layout : bytes ≡ before ++ (area ++ (to_le_bytes w32 (length area) ++ magic_bytes (magic_of tail.mode)))
   pub begins : take 4 before ≡ magic_bytes (magic_of tail.mode)
-  pub short : length area ≤ 16842752
+  pub short : length area ≤ FOOTER_AREA_LIMIT
   pub data_end : tail.data_end ≡ length before
-  -- what stands in the area
+  -- the contents of the area
   pub holds : IsFooterArea asks tail tail.mode tail.protection area
   -- the footer at the front of its bytes
   pub size : ℕ
   pub footer : file_meta_at footer_place tail.footer_bytes ≡ Ok (tail.footer, size)
 
--- the tail that is defined by reading is the one that the format lays out, and there is no other
+-- the tail that reading defines is laid out as the format says, and no other tail is
 abbrev pub TailsAreLaidOut : Type 0
 TailsAreLaidOut = (asks : Asks) (bytes : List ℕ) (tail : Tail) → AreBytes bytes → (tail_of asks bytes ≡ Ok tail) ↔ IsTail asks bytes tail
 
--- and bytes that are laid out so are read to it, whatever they are
+-- any bytes that end with a tail as the format lays it out are read as that tail
 abbrev pub LaidTailsAreRead : Type 0
 LaidTailsAreRead = (asks : Asks) (bytes : List ℕ) (tail : Tail) → IsTail asks bytes tail → tail_of asks bytes ≡ Ok tail
 
--- only an unencrypted footer has no protection, and a reader without the flag for unencrypted files is given none
+-- only an unencrypted footer has no protection, and only a reader with `allow_plain` is given one
 pub record HasItsMode (asks : Asks) (tail : Tail) : Type 0 where
   pub exactly : (tail.protection ≡ None) ↔ (tail.mode ≡ Unencrypted)
   pub flagged : asks.allow_plain ≡ false → IsSome tail.protection
 
--- without the flag for unencrypted files each tail is protected
+-- without `allow_plain` each tail is protected
 abbrev pub UnencryptedNeedsFlag : Type 0
 UnencryptedNeedsFlag = (asks : Asks) (bytes : List ℕ) (tail : Tail) → tail_of asks bytes ≡ Ok tail → asks.allow_plain ≡ false → IsSome tail.protection

@@ -1,4 +1,4 @@
--- The laws that a tail that was written of a plan is read: the reader's answer is what the rules say of the plan's fields.
+-- Laws: a tail that was written from a plan is read back, and answered as the rules judge the plan's fields.
 use Rattle.std.specs.Prelude.{◌≡◌, ◌+◌, ℕ, false, List, [], ◌++◌, length, Some, Ok}
 use Rattle.pme_base.specs.Steps.{◌>>=◌}
 use Rattle.thrift_compact.specs.Proper.{IsSmall}
@@ -15,7 +15,7 @@ use Rattle.footer_modes.specs.TailOf.{Asks, tail_of}
 use Rattle.footer_modes.specs.Written.{encrypted_area, signed_area, encrypted_tail, signed_tail, is_too_large}
 use Rattle.footer_modes.specs.WrittenRead.{CanOpen, Begins, tail_with}
 
--- what is written of a plan
+-- the structs that are written from a plan
 abbrev pub footer_bytes : FooterPlan → List ℕ
 footer_bytes plan = written (file_meta_data plan)
 

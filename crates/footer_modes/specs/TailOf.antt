@@ -3,6 +3,7 @@
 use Rattle.std.specs.List.{list_all}
 use Rattle.std.specs.Prelude.{◌≡◌, ◌≤◌, ℕ, pos, ◌+◌, Bool, true, false, nat_lt, ◌==◌, ◌&&◌, if◌then◌else◌, List, [], ◌++◌, length, take, drop, Option, Some, None, Result, Ok, Err}
 use Rattle.std.specs.Str.{bytes_eq}
+use Rattle.pme_base.specs.declared.limits.TheConstants.{FOOTER_LIMIT, PREFIX_LIMIT}
 use Rattle.pme_base.specs.declared.refusal.Cause.TheVariants.{BadTag, BadField, BadFooterLength, NotEncrypted, PrefixNeeded, PrefixUnused, PrefixDiffers, FooterKeyMissing, AlgorithmRefused, TooLarge, NoFile}
 use Rattle.pme_base.specs.declared.refusal.Detail.TheVariants.{Nothing, Field, Tags, Hexes}
 use Rattle.pme_base.specs.declared.refusal.StructName.TheVariants.{ColumnChunk}
@@ -33,9 +34,10 @@ use Rattle.footer_modes.specs.declared.mode.Magic.{Magic}
 use Rattle.footer_modes.specs.declared.mode.Magic.TheVariants.{Pare, Par1}
 use Rattle.footer_modes.specs.declared.tail.Tail.{Tail}
 use Rattle.footer_modes.specs.declared.tail.Protection.{Protection}
+use Rattle.footer_modes.specs.declared.tail.ReadOptions.{ReadOptions}
 use Rattle.footer_modes.specs.Ends.{footer_place, magic_mode, ends_of, area_of}
 
--- what a reader brings: the answers of its key finder, a prefix of the associated data where it supplies one, whether it
+-- the inputs of a reader: the answers of its key finder, a prefix of the associated data where it supplies one, whether it
 -- accepts AES_GCM_V1 alone, and whether it accepts unencrypted files
 pub record Asks : Type 0 where
   pub answer : Asked → KeyAnswer
@@ -46,11 +48,15 @@ pub record Asks : Type 0 where
 abbrev pub asks_of : (Asked → KeyAnswer) → Option (List ℕ) → Bool → Bool → Asks
 asks_of answer prefix gcm_only allow_plain = record { answer = answer; prefix = prefix; gcm_only = gcm_only; allow_plain = allow_plain }
 
+-- the inputs of a reader with these options
+abbrev pub asks_with : (Asked → KeyAnswer) → Option (List ℕ) → ReadOptions → Asks
+asks_with answer prefix options = asks_of answer prefix options.gcm_only options.allow_plain
+
 -- a refusal of the footer as a whole
 abbrev pub refused : {T : Type 0} → Cause → Detail → Result T Refusal
 refused cause d = Err (refusal_at cause footer_place 0 d)
 
--- the front of the area of an encrypted footer: FileCryptoMetaData, which the module follows
+-- the front of the area of an encrypted footer: FileCryptoMetaData; the footer's module follows it
 abbrev pub sealed_head : FileCrypto × ℕ → Head
 sealed_head read = record { algorithm = read.0.algorithm; metadata = read.0.key_metadata; size = read.1 }
 
@@ -70,14 +76,14 @@ head_of allow_plain Par1 data_end area = do
   read ← split_signing (signing_at footer_place area)
   plain_head allow_plain (data_end + length area) (length area) read.0 read.1 read.2
 
--- the head lies within an area of `room` bytes, and a signature fills the rest of it
+-- the footer lies within an area of `room` bytes, and a signature fills the rest of it
 abbrev pub HeadFits : Magic → ℕ → AreaHead → Type 0
 HeadFits Pare room (Protected head) = head.size ≤ room
 HeadFits Pare room (Bare size) = ⊥
 HeadFits Par1 room (Protected head) = head.size + 28 ≡ room
 HeadFits Par1 room (Bare size) = size ≤ room
 
--- the algorithm is one that the reader takes
+-- the reader accepts the algorithm
 abbrev pub allowed : Bool → AlgorithmMeta → Result Unit Refusal
 allowed gcm_only algorithm = if gcm_only && algorithm.ctr then refused AlgorithmRefused Nothing else Ok tt
 
@@ -87,7 +93,7 @@ within_limit limit count = if nat_lt limit count then Err (pair_refusal TooLarge
 
 abbrev pub stored_within : Option (List ℕ) → Result Unit Refusal
 stored_within None = Ok tt
-stored_within (Some stored) = within_limit 1024 (length stored)
+stored_within (Some stored) = within_limit PREFIX_LIMIT (length stored)
 
 -- a stored prefix that is supplied too
 abbrev pub same_prefix : List ℕ → List ℕ → Result (List ℕ) Refusal
@@ -103,7 +109,7 @@ prefix_of None true (Some supplied) = Ok supplied
 prefix_of None false None = Ok []
 prefix_of None false (Some supplied) = refused PrefixUnused Nothing
 
--- what the associated data of the file's modules begins with
+-- the bytes with which the associated data of all modules of the file begin
 abbrev pub aad_of : AlgorithmMeta → Option (List ℕ) → Result (List ℕ) Refusal
 aad_of algorithm supplied = do
   _ ← stored_within algorithm.prefix
@@ -116,7 +122,7 @@ key_of (Held key) = Ok key
 key_of Absent = refused FooterKeyMissing Nothing
 key_of (Refused cause d) = refused cause d
 
--- the tag that sealing these bytes gives
+-- the tag of sealing these bytes
 abbrev pub signature : List ℕ → List ℕ → List ℕ → List ℕ → List ℕ
 signature key associated nonce plain = tag_of key nonce associated (gctr key nonce 2 plain)
 
@@ -133,7 +139,7 @@ checked_area key associated at size area =
 -- the footer's bytes: the plaintext of the module that fills the rest of the area, or the signed bytes themselves. The
 -- first `size` bytes of the area come before the module or the nonce, which stands at the offset `at` of the file.
 abbrev pub plain_of : Magic → List ℕ → List ℕ → ℕ → ℕ → List ℕ → Result (List ℕ) Refusal
-plain_of Pare key file at size area = opened key (aad file footer_place) footer_place at 16777216 true (drop size area)
+plain_of Pare key file at size area = opened key (aad file footer_place) footer_place at FOOTER_LIMIT true (drop size area)
 plain_of Par1 key file at size area = checked_area key (aad file footer_place) at size area
 
 -- the bytes of FileCryptoMetaData; none in front of a signed footer
@@ -170,7 +176,7 @@ protected_tail asks magic data_end area head = do
   meta ← footer_of plain
   Ok (protected_by magic data_end head (protection_of head file key (crypto_of magic head.size area)) plain meta)
 
--- an unencrypted file needs no prefix
+-- an unencrypted file takes no prefix
 abbrev pub unsupplied : Option (List ℕ) → Result Unit Refusal
 unsupplied None = Ok tt
 unsupplied (Some prefix) = refused PrefixUnused Nothing
@@ -190,7 +196,7 @@ unsealed meta = if are_plain meta.groups then Ok tt else refused BadField (Field
 abbrev pub bare_by : ℕ → List ℕ → FileMeta → Tail
 bare_by data_end plain meta = record { mode = Unencrypted; protection = None; footer = meta; footer_bytes = plain; data_end = data_end; at = data_end }
 
--- the tail of an unencrypted footer of these bytes
+-- the tail whose unencrypted footer has these bytes
 abbrev pub bare_tail : Option (List ℕ) → ℕ → List ℕ → Result Tail Refusal
 bare_tail prefix data_end plain = do
   _ ← unsupplied prefix
@@ -214,7 +220,7 @@ tail_of asks bytes = do
   ends ← ends_of bytes
   area_tail asks ends.magic ends.data_end (area_of ends bytes)
 
--- of a file that may not be there
+-- the tail of a file, which may not exist
 abbrev pub file_tail : Asks → Option (List ℕ) → Result Tail Refusal
 file_tail asks None = Err (plain_refusal NoFile)
 file_tail asks (Some bytes) = tail_of asks bytes

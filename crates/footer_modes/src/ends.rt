@@ -1,26 +1,24 @@
-// The two ends of a file.
+// The two ends of a file: its magic, the length field and where the footer area lies.
 ghost use Rattle.std.specs.Prelude.{◌≡◌, ◌+◌, ◌<◌, ◌≤◌, ◌^◌, true, length, OnOk, IfOk, IfErr, IfSome, vec_len};
 ghost use Rattle.std.specs.FinMap.{get};
+ghost use Rattle.pme_base.specs.Causes.{CausedBy};
 ghost use Rattle.pme_base.specs.Outside.{bytes_of};
 ghost use Rattle.pme_base.specs.Refusals.{is_free};
 ghost use Rattle.pme_base.specs.Steps.{Answers, Quiet, ReadsFail};
 ghost use Rattle.pme_base.specs.declared.refusal.Cause.TheVariants.{Truncated};
-ghost use Rattle.footer_modes.specs.Causes.{is_ends_cause, is_short_cause, IsShortEnd, IsShortRead};
+ghost use Rattle.footer_modes.specs.Causes.{is_ends_cause, IsShortEnd, IsShortRead};
 ghost use Rattle.footer_modes.specs.Ends as defined;
 
 use crate::mode::Magic;
 use crate::reading::read_exactly;
 use pme_base::{
-    Cause, Detail, Files, OutOfMemory, Place, Refusal, buffer_of, file_size, plain_refusal,
-    refusal_at,
+    Cause, Detail, FOOTER_AREA_LIMIT, Files, OutOfMemory, Place, Refusal, buffer_of, file_size,
+    plain_refusal, refusal_at,
 };
 use std::alloc::Global;
 
 /// The size of the shortest file: two magics and the length field of an empty area.
 const SHORTEST: u64 = 12;
-
-/// Size limit of the footer area: a footer of 16,777,216 bytes and 65,536 bytes beside it.
-const LONGEST_AREA: u64 = 16_842_752;
 
 /// The magic of a file, the offset of its footer area, and the length of the area in bytes.
 #[derive(Clone, Copy, Debug, PartialEq, Eq, Drop)]
@@ -32,16 +30,18 @@ pub(crate) struct Ends {
 
 /// Reads the ends of the file `name`.
 pub(crate) fn file_ends<F: Files>(files: &mut F, name: &str) -> Result<Ends, Refusal>
-    ensures answer { IfSome (F.published files.old) (λ published. Answers result (defined.file_ends (get published name.now))) }
-    ensures inside { IfOk result (λ ends. IfSome (F.published files.old) (λ published. defined.IsInside ends (bytes_of published name.now))) }
-    ensures small { IfOk result (λ ends. ends.area ≤ 16842752) }
+    ensures answer { IfSome (F.published files.old)
+        (λ published. Answers result (defined.file_ends (get published name.now))) }
+    ensures inside { IfOk result (λ ends. IfSome (F.published files.old)
+        (λ published. defined.IsInside ends (bytes_of published name.now))) }
+    ensures small { IfOk result (λ ends. ends.area ≤ FOOTER_AREA_LIMIT) }
     ensures offset { IfOk result (λ ends. ends.data_end + ends.area + 8 < 2 ^ 64) }
     ensures short { IfErr result (λ refusal. refusal.cause ≡ Truncated → IsShortEnd refusal) }
     ensures published { F.published files.new ≡ F.published files.old }
     ensures pending { OnOk result (F.pending files.new ≡ F.pending files.old) }
     ensures given { F.given files.new ≤ F.given files.old + 12 }
     ensures reads { ReadsFail (F.faults files.old) (F.faults files.new) result }
-    ensures causes { IfErr result (λ refusal. is_ends_cause refusal.cause ≡ true) }
+    ensures causes { CausedBy is_ends_cause result }
 {
     match file_size(files, name) {
         Ok(size) => ends_at(files, name, size),
@@ -51,15 +51,17 @@ pub(crate) fn file_ends<F: Files>(files: &mut F, name: &str) -> Result<Ends, Ref
 
 /// Reads the ends of an existing file of `size` bytes.
 fn ends_at<F: Files>(files: &mut F, name: &str, size: u64) -> Result<Ends, Refusal>
-    ensures answer { IfSome (F.published files.old) (λ published. size ≡ length (bytes_of published name.now) → Answers result (defined.ends_of (bytes_of published name.now))) }
+    ensures answer { IfSome (F.published files.old) (λ published. size
+        ≡ length (bytes_of published name.now)
+        → Answers result (defined.ends_of (bytes_of published name.now))) }
     ensures inside { IfOk result (λ ends. ends.data_end + ends.area + 8 ≡ size) }
-    ensures small { IfOk result (λ ends. ends.area ≤ 16842752) }
+    ensures small { IfOk result (λ ends. ends.area ≤ FOOTER_AREA_LIMIT) }
     ensures short { IfErr result (λ refusal. refusal.cause ≡ Truncated → IsShortEnd refusal) }
     ensures published { F.published files.new ≡ F.published files.old }
     ensures pending { OnOk result (F.pending files.new ≡ F.pending files.old) }
     ensures given { F.given files.new ≤ F.given files.old + 12 }
     ensures reads { ReadsFail (F.faults files.old) (F.faults files.new) result }
-    ensures causes { IfErr result (λ refusal. is_ends_cause refusal.cause ≡ true) }
+    ensures causes { CausedBy is_ends_cause result }
 {
     if size < SHORTEST {
         let detail = Detail::Pair(SHORTEST, size);
@@ -77,10 +79,10 @@ fn ends_within(size: u64, front: &[u8; 4], back: &[u8; 8]) -> Result<Ends, Refus
     requires { 12 ≤ size }
     ensures answer { result ≡ defined.ends_within size front.now back.now }
     ensures inside { IfOk result (λ ends. ends.data_end + ends.area + 8 ≡ size) }
-    ensures small { IfOk result (λ ends. ends.area ≤ 16842752) }
+    ensures small { IfOk result (λ ends. ends.area ≤ FOOTER_AREA_LIMIT) }
     ensures whole { IfErr result (λ refusal. refusal.cause ≡ Truncated → ⊥) }
     ensures quiet { Quiet result }
-    ensures causes { IfErr result (λ refusal. is_ends_cause refusal.cause ≡ true) }
+    ensures causes { CausedBy is_ends_cause result }
 {
     let magic = known_magic(size - 4, &back[4..])?;
     check_first_magic(magic, front)?;
@@ -93,7 +95,7 @@ fn known_magic(at: u64, bytes: &[u8]) -> Result<Magic, Refusal>
     ensures answer { result ≡ defined.known_magic at bytes.now }
     ensures whole { IfErr result (λ refusal. refusal.cause ≡ Truncated → ⊥) }
     ensures quiet { Quiet result }
-    ensures causes { IfErr result (λ refusal. is_ends_cause refusal.cause ≡ true) }
+    ensures causes { CausedBy is_ends_cause result }
 {
     if bytes == b"PARE".as_slice() {
         return Ok(Magic::Pare);
@@ -109,7 +111,7 @@ fn check_first_magic(magic: Magic, front: &[u8]) -> Result<(), Refusal>
     ensures answer { result ≡ defined.begins magic front.now }
     ensures whole { IfErr result (λ refusal. refusal.cause ≡ Truncated → ⊥) }
     ensures quiet { Quiet result }
-    ensures causes { IfErr result (λ refusal. is_ends_cause refusal.cause ≡ true) }
+    ensures causes { CausedBy is_ends_cause result }
 {
     let same = match magic {
         Magic::Pare => front == b"PARE".as_slice(),
@@ -129,18 +131,18 @@ fn area_at(size: u64, magic: Magic, count: u32) -> Result<Ends, Refusal>
     requires { 12 ≤ size }
     ensures answer { result ≡ defined.area_at size magic count }
     ensures inside { IfOk result (λ ends. ends.data_end + ends.area + 8 ≡ size) }
-    ensures small { IfOk result (λ ends. ends.area ≤ 16842752) }
+    ensures small { IfOk result (λ ends. ends.area ≤ FOOTER_AREA_LIMIT) }
     ensures whole { IfErr result (λ refusal. refusal.cause ≡ Truncated → ⊥) }
     ensures quiet { Quiet result }
-    ensures causes { IfErr result (λ refusal. is_ends_cause refusal.cause ≡ true) }
+    ensures causes { CausedBy is_ends_cause result }
 {
     let area = u64::from(count);
     if area > size - SHORTEST {
         let detail = Detail::Pair(area, size - SHORTEST);
         return Err(refusal_at(Cause::BadFooterLength, Place::footer(), size - 8, detail));
     }
-    if area > LONGEST_AREA {
-        let detail = Detail::Pair(area, LONGEST_AREA);
+    if area > FOOTER_AREA_LIMIT as u64 {
+        let detail = Detail::Pair(area, FOOTER_AREA_LIMIT as u64);
         return Err(refusal_at(Cause::TooLarge, Place::footer(), size - 8, detail));
     }
     Ok(Ends {
@@ -157,16 +159,21 @@ pub(crate) fn area_of<F: Files>(
     name: &str,
     ends: &Ends,
 ) -> Result<Vec<u8>, Refusal>
-    requires small { ends.now.area ≤ 16842752 }
-    ensures answered { IfOk result (λ area. IfSome (F.published files.old) (λ published. defined.IsInside ends.now (bytes_of published name.now) → area.items ≡ defined.area_of ends.now (bytes_of published name.now))) }
+    requires small { ends.now.area ≤ FOOTER_AREA_LIMIT }
+    ensures answered { IfOk result (λ area. IfSome (F.published files.old)
+        (λ published. defined.IsInside ends.now (bytes_of published name.now)
+        → area.items ≡ defined.area_of ends.now (bytes_of published name.now))) }
     ensures size { IfOk result (λ area. vec_len area ≡ ends.now.area) }
-    ensures short { IfErr result (λ refusal. refusal.cause ≡ Truncated → IsShortRead defined.footer_place ends.now.data_end ends.now.area refusal) }
-    ensures free { IfErr result (λ refusal. IfSome (F.published files.old) (λ published. defined.IsInside ends.now (bytes_of published name.now) → is_free refusal.cause ≡ true)) }
+    ensures short { IfErr result (λ refusal. refusal.cause ≡ Truncated
+        → IsShortRead defined.footer_place ends.now.data_end ends.now.area refusal) }
+    ensures free { IfErr result (λ refusal. IfSome (F.published files.old)
+        (λ published. defined.IsInside ends.now (bytes_of published name.now)
+        → is_free refusal.cause ≡ true)) }
     ensures published { F.published files.new ≡ F.published files.old }
     ensures pending { OnOk result (F.pending files.new ≡ F.pending files.old) }
     ensures given { F.given files.new ≤ F.given files.old + ends.now.area }
     ensures reads { ReadsFail (F.faults files.old) (F.faults files.new) result }
-    ensures causes { IfErr result (λ refusal. is_short_cause refusal.cause ≡ true) }
+    ensures causes { CausedBy is_ends_cause result }
 {
     let mut area = match buffer_of(alloc, ends.area) {
         Ok(area) => area,

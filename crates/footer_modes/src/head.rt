@@ -1,5 +1,6 @@
 // The front of the footer area: how the footer is encrypted or signed, or that it is unencrypted.
-ghost use Rattle.std.specs.Prelude.{◌≡◌, ◌+◌, ◌<◌, ◌^◌, true, false, length, IfOk, IfErr};
+ghost use Rattle.std.specs.Prelude.{◌≡◌, ◌+◌, ◌<◌, ◌^◌, false, length, IfOk};
+ghost use Rattle.pme_base.specs.Causes.{CausedBy};
 ghost use Rattle.pme_base.specs.Refusals.{refusal_at};
 ghost use Rattle.pme_base.specs.Steps.{Answers, Quiet};
 ghost use Rattle.footer_modes.specs.Causes.{is_head_cause};
@@ -12,7 +13,7 @@ use parquet_meta::{AlgorithmMeta, FileCrypto, read_file_crypto, read_signing};
 use pme_base::{Bytes, Cause, Detail, Place, Refusal, refusal_at};
 use std::alloc::Global;
 
-/// The bytes of a nonce and a tag.
+/// Bytes of a signature: a nonce of 12 and a tag of 16.
 const SIGNATURE: usize = 28;
 
 /// How a footer is encrypted or signed.
@@ -25,7 +26,7 @@ pub(crate) struct Head {
     pub size: usize,
 }
 
-/// What stands at the front of a footer area.
+/// The front of a footer area, parsed.
 #[derive(Debug, Drop)]
 pub(crate) enum AreaHead {
     /// An encrypted or signed footer.
@@ -54,7 +55,7 @@ pub(crate) fn head_of(
     ensures answer { Answers result (defined.head_of allow_plain magic data_end area.now) }
     ensures within { IfOk result (defined.HeadFits magic (length area.now)) }
     ensures quiet { Quiet result }
-    ensures causes { IfErr result (λ refusal. is_head_cause refusal.cause ≡ true) }
+    ensures causes { CausedBy is_head_cause result }
 {
     match magic {
         Magic::Pare => sealed_head(alloc, area),
@@ -67,7 +68,7 @@ fn sealed_head(alloc: Global, area: &[u8]) -> Result<AreaHead, Refusal>
     ensures answer { Answers result (defined.head_of false magic_is.Pare 0 area.now) }
     ensures within { IfOk result (defined.HeadFits magic_is.Pare (length area.now)) }
     ensures quiet { Quiet result }
-    ensures causes { IfErr result (λ refusal. is_head_cause refusal.cause ≡ true) }
+    ensures causes { CausedBy is_head_cause result }
 {
     let (crypto, size) = read_file_crypto(alloc, area)?;
     let FileCrypto {
@@ -81,7 +82,7 @@ fn sealed_head(alloc: Global, area: &[u8]) -> Result<AreaHead, Refusal>
     }))
 }
 
-/// Parses a footer in plain, which a nonce and a tag follow to the end of the area if it is signed.
+/// Parses a plaintext footer. If it is signed, a nonce and a tag fill the rest of the area.
 fn plain_head(
     alloc: Global,
     allow_plain: bool,
@@ -92,7 +93,7 @@ fn plain_head(
     ensures answer { Answers result (defined.head_of allow_plain magic_is.Par1 data_end area.now) }
     ensures within { IfOk result (defined.HeadFits magic_is.Par1 (length area.now)) }
     ensures quiet { Quiet result }
-    ensures causes { IfErr result (λ refusal. is_head_cause refusal.cause ≡ true) }
+    ensures causes { CausedBy is_head_cause result }
 {
     let (algorithm, metadata, size) = read_signing(alloc, area)?;
     let Some(algorithm) = algorithm else {

@@ -1,11 +1,13 @@
-/// How a file keeps its footer.
+// The footer modes and the magics.
+
+/// The footer mode of a file.
 #[derive(Clone, Copy, Debug, PartialEq, Eq, Drop)]
 pub enum FooterMode {
-    /// As an encrypted module after its FileCryptoMetaData. The file begins and ends with `PARE`.
+    /// The footer is an encrypted module after FileCryptoMetaData. The file begins and ends with `PARE`.
     Encrypted,
-    /// In plain, followed by a nonce and the tag of the footer's bytes. The file begins and ends with `PAR1`.
+    /// The footer is in plaintext and signed: a nonce and a tag of its bytes follow it. The file begins and ends with `PAR1`.
     Signed,
-    /// In plain without a signature, in a file without encryption. The file begins and ends with `PAR1`.
+    /// The footer is in plaintext and not signed, and nothing in the file is encrypted. The file begins and ends with `PAR1`.
     Unencrypted,
 }
 

@@ -2,6 +2,7 @@
 ghost use Rattle.std.specs.Prelude.{◌≡◌, ◌+◌, ◌≤◌, true, false, length, take, drop, Ok, Err, IfOk, IfErr};
 ghost use Rattle.crypto_module.specs.Frames.{is_module_cause};
 ghost use Rattle.crypto_module.specs.Opening.{opened};
+ghost use Rattle.pme_base.specs.Causes.{CausedBy};
 ghost use Rattle.pme_base.specs.Steps.{Answers, Quiet};
 ghost use Rattle.key_rights.specs.Finding.{footer};
 ghost use Rattle.module_aad.specs.Aad as associated;
@@ -18,11 +19,11 @@ use crypto_module::read_gcm;
 use gcm_seal::sign;
 use key_rights::{FooterKey, KeyAnswer, KeyFinder, KeyTrouble};
 use module_aad::FileAad;
-use pme_base::{Bytes, Cause, Detail, Place, Refusal, plain_refusal, refusal_at};
+use pme_base::{
+    Bytes, Cause, Detail, FOOTER_AREA_LIMIT, FOOTER_LIMIT, Place, Refusal, plain_refusal,
+    refusal_at,
+};
 use std::alloc::Global;
-
-/// Size limit of the footer in bytes.
-const LONGEST_FOOTER: u32 = 16_777_216;
 
 /// Asks for the footer's key by its metadata.
 pub(crate) fn footer_key<K: KeyFinder>(
@@ -33,7 +34,7 @@ pub(crate) fn footer_key<K: KeyFinder>(
     ensures answer { Answers result (defined.key_of (K.answer finder.old (footer metadata.now))) }
     ensures same { K.answer finder.new ≡ K.answer finder.old }
     ensures finder { FinderFails (K.faults finder.old) (K.faults finder.new) result }
-    ensures causes { IfErr result (λ refusal. is_footer_key_cause refusal.cause ≡ true) }
+    ensures causes { CausedBy is_footer_key_cause result }
 {
     let answer = match metadata {
         Some(metadata) => finder.footer_key(alloc, Some(metadata.as_slice())),
@@ -60,12 +61,14 @@ pub(crate) fn plain_of<'a>(
 ) -> Result<&'a [u8], Refusal>
     requires within { size ≤ length area.old }
     requires signed { magic ≡ magic_is.Par1 → size + 28 ≡ length area.old }
-    requires short { length area.old ≤ 16842752 }
-    ensures ok { IfOk result (λ plain. defined.plain_of magic key.now file.now at size area.old ≡ Ok plain.now) }
-    ensures err { IfErr result (λ refusal. defined.plain_of magic key.now file.now at size area.old ≡ Err refusal) }
+    requires short { length area.old ≤ FOOTER_AREA_LIMIT }
+    ensures ok { IfOk result (λ plain. defined.plain_of magic key.now file.now at size area.old
+        ≡ Ok plain.now) }
+    ensures err { IfErr result (λ refusal. defined.plain_of magic key.now file.now at size area.old
+        ≡ Err refusal) }
     ensures place { IfErr result (λ refusal. refusal.place ≡ footer_place) }
     ensures quiet { Quiet result }
-    ensures causes { IfErr result (λ refusal. is_module_cause refusal.cause ≡ true) }
+    ensures causes { CausedBy is_module_cause result }
 {
     let mut aad = [0; 1095];
     let length = file.write_aad(&Place::footer(), &mut aad);
@@ -83,13 +86,15 @@ fn sealed_plain<'a>(
     module: &'a mut [u8],
 ) -> Result<&'a [u8], Refusal>
     requires short { length aad.now ≤ 4096 }
-    ensures ok { IfOk result (λ plain. opened key.now aad.now footer_place at 16777216 true «module».old ≡ Ok plain.now) }
-    ensures err { IfErr result (λ refusal. opened key.now aad.now footer_place at 16777216 true «module».old ≡ Err refusal) }
+    ensures ok { IfOk result (λ plain.
+        opened key.now aad.now footer_place at FOOTER_LIMIT true «module».old ≡ Ok plain.now) }
+    ensures err { IfErr result (λ refusal.
+        opened key.now aad.now footer_place at FOOTER_LIMIT true «module».old ≡ Err refusal) }
     ensures place { IfErr result (λ refusal. refusal.place ≡ footer_place) }
     ensures quiet { Quiet result }
-    ensures causes { IfErr result (λ refusal. is_module_cause refusal.cause ≡ true) }
+    ensures causes { CausedBy is_module_cause result }
 {
-    match read_gcm(key, aad, &Place::footer(), at, LONGEST_FOOTER, true, module) {
+    match read_gcm(key, aad, &Place::footer(), at, FOOTER_LIMIT, true, module) {
         Ok(opened) => Ok(&module[16..][..opened.length]),
         Err(refusal) => Err(refusal),
     }
@@ -106,12 +111,14 @@ fn signed_plain<'a>(
 ) -> Result<&'a [u8], Refusal>
     requires short_aad { length aad.now ≤ 4096 }
     requires size { size + 28 ≡ length area.now }
-    requires short { length area.now ≤ 16842752 }
-    ensures ok { IfOk result (λ plain. defined.checked_area key.now aad.now at size area.now ≡ Ok plain.now) }
-    ensures err { IfErr result (λ refusal. defined.checked_area key.now aad.now at size area.now ≡ Err refusal) }
+    requires short { length area.now ≤ FOOTER_AREA_LIMIT }
+    ensures ok { IfOk result (λ plain. defined.checked_area key.now aad.now at size area.now
+        ≡ Ok plain.now) }
+    ensures err { IfErr result (λ refusal. defined.checked_area key.now aad.now at size area.now
+        ≡ Err refusal) }
     ensures place { IfErr result (λ refusal. refusal.place ≡ footer_place) }
     ensures quiet { Quiet result }
-    ensures causes { IfErr result (λ refusal. is_module_cause refusal.cause ≡ true) }
+    ensures causes { CausedBy is_module_cause result }
 {
     let plain = &area[..size];
     let nonce = nonce_of(&area[size..]);

@@ -1,11 +1,12 @@
-// Reading the end of a file.
-ghost use Rattle.std.specs.Prelude.{◌≡◌, ◌+◌, ◌<◌, ◌≤◌, ◌^◌, true, false, length, Ok, Err, OnOk, IfOk, IfErr, IfSome};
+// Reading the tail of a file: its ends, the front of the footer area, and the footer.
+ghost use Rattle.std.specs.Prelude.{◌≡◌, ◌+◌, ◌<◌, ◌≤◌, ◌^◌, false, length, Ok, Err, OnOk, IfOk, IfErr, IfSome};
 ghost use Rattle.std.specs.FinMap.{get};
 ghost use Rattle.std.specs.Option.{option_copied};
+ghost use Rattle.pme_base.specs.Causes.{CausedBy};
 ghost use Rattle.pme_base.specs.Steps.{Answers, Quiet, ReadsFail};
 ghost use Rattle.footer_modes.specs.Causes.{is_head_cause, is_ends_cause, is_metadata_cause, is_tail_cause, is_area_cause, FinderFails, TellsShort};
 ghost use Rattle.pme_base.specs.declared.refusal.Cause.TheVariants.{AlgorithmRefused, BadField, OutOfMemory, Truncated};
-ghost use Rattle.parquet_meta.specs.Footer.{HasFileCause};
+ghost use Rattle.parquet_meta.specs.Footer.{is_file_cause};
 ghost use Rattle.footer_modes.specs.Ends.{footer_place};
 ghost use Rattle.footer_modes.specs.IsTail.{HasItsMode, IsTail};
 ghost use Rattle.footer_modes.specs.TailOf as defined;
@@ -22,17 +23,20 @@ use crate::tail::{Protection, ReadOptions, Tail};
 use key_rights::KeyFinder;
 use parquet_meta::{AlgorithmMeta, FileMeta, read_file_meta};
 use parquet_types::{ChunkCrypto, ChunkMeta, RowGroupMeta};
-use pme_base::{Bytes, Cause, Detail, Files, Place, Refusal, StructName, plain_refusal};
+use pme_base::{
+    Bytes, Cause, Detail, FOOTER_AREA_LIMIT, Files, MODULE_LIMIT, PREFIX_LIMIT, Place, Refusal,
+    StructName, plain_refusal,
+};
 use std::alloc::Global;
 
 /// Reads the end of the file `name` and opens its footer with the key that the finder has for it.
 ///
 /// A reader supplies the prefix of the associated data exactly where the file asks for it; where the file stores one, the
-/// supplied one must be the same. The prefix has at most 1,024 bytes. The refusals come in the order in which the file is
+/// supplied one must be the same. The prefix has at most 1,024 bytes. The file is judged in the order in which it is
 /// read: its ends, the front of the footer area, the algorithm, the associated data, the key, the tag, the footer's
-/// fields and rules. An unencrypted file is NotEncrypted unless `options.allow_plain` is set; then it takes no prefix, no
-/// key is asked for, and none of its column chunks may be encrypted. At most 16,842,764 bytes are read. A file that gives
-/// fewer bytes of the footer area than its size promised is Truncated at the footer.
+/// fields, and the rules on them. An unencrypted file is NotEncrypted unless `options.allow_plain` is set; then it takes
+/// no prefix, no key is asked for, and none of its column chunks may be encrypted. At most 16,842,764 bytes are read. A
+/// file that gives fewer bytes of the footer area than its size promised is Truncated at the footer.
 pub fn read_tail<F: Files, K: KeyFinder>(
     alloc: Global,
     files: &mut F,
@@ -41,19 +45,25 @@ pub fn read_tail<F: Files, K: KeyFinder>(
     finder: &mut K,
     options: &ReadOptions,
 ) -> Result<Tail, Refusal>
-    requires short_prefix { IfSome (option_copied prefix) (λ supplied. length supplied ≤ 1024) }
-    requires small_limit { options.now.module_limit ≤ 268435456 }
-    ensures answer { IfSome (F.published files.old) (λ published. Answers result (defined.file_tail (defined.asks_of (K.answer finder.old) (option_copied prefix.entry) options.now.gcm_only options.now.allow_plain) (get published name.now))) }
-    ensures laid_out { IfOk result (λ tail. IfSome (F.published files.old) (λ published. IfSome (get published name.now) (λ bytes. IsTail (defined.asks_of (K.answer finder.old) (option_copied prefix.entry) options.now.gcm_only options.now.allow_plain) bytes tail))) }
-    ensures mode { IfOk result (HasItsMode (defined.asks_of (K.answer finder.old) (option_copied prefix.entry) options.now.gcm_only options.now.allow_plain)) }
+    requires short_prefix { IfSome (option_copied prefix)
+        (λ supplied. length supplied ≤ PREFIX_LIMIT) }
+    requires small_limit { options.now.module_limit ≤ MODULE_LIMIT }
+    ensures answer { IfSome (F.published files.old) (λ published.
+        Answers result (defined.file_tail (defined.asks_with (K.answer finder.old)
+        (option_copied prefix.entry) options.now) (get published name.now))) }
+    ensures laid_out { IfOk result (λ tail. IfSome (F.published files.old)
+        (λ published. IfSome (get published name.now) (λ bytes. IsTail (defined.asks_with
+        (K.answer finder.old) (option_copied prefix.entry) options.now) bytes tail))) }
+    ensures mode { IfOk result (HasItsMode
+        (defined.asks_with (K.answer finder.old) (option_copied prefix.entry) options.now)) }
     ensures short { IfErr result TellsShort }
     ensures published { F.published files.new ≡ F.published files.old }
     ensures pending { OnOk result (F.pending files.new ≡ F.pending files.old) }
-    ensures given { F.given files.new ≤ F.given files.old + 16842764 }
+    ensures given { F.given files.new ≤ F.given files.old + FOOTER_AREA_LIMIT + 12 }
     ensures same { K.answer finder.new ≡ K.answer finder.old }
     ensures reads { ReadsFail (F.faults files.old) (F.faults files.new) result }
     ensures finder { FinderFails (K.faults finder.old) (K.faults finder.new) result }
-    ensures causes { IfErr result (λ refusal. is_tail_cause refusal.cause ≡ true) }
+    ensures causes { CausedBy is_tail_cause result }
 {
     let ends = file_ends(files, name)?;
     let mut area = area_of(alloc, files, name, &ends)?;
@@ -76,13 +86,14 @@ pub fn footer_key_metadata<F: Files>(
     files: &mut F,
     name: &str,
 ) -> Result<Option<Bytes>, Refusal>
-    ensures answer { IfSome (F.published files.old) (λ published. Answers result (defined.file_key_metadata (get published name.now))) }
+    ensures answer { IfSome (F.published files.old)
+        (λ published. Answers result (defined.file_key_metadata (get published name.now))) }
     ensures short { IfErr result TellsShort }
     ensures published { F.published files.new ≡ F.published files.old }
     ensures pending { OnOk result (F.pending files.new ≡ F.pending files.old) }
-    ensures given { F.given files.new ≤ F.given files.old + 16842764 }
+    ensures given { F.given files.new ≤ F.given files.old + FOOTER_AREA_LIMIT + 12 }
     ensures reads { ReadsFail (F.faults files.old) (F.faults files.new) result }
-    ensures causes { IfErr result (λ refusal. is_metadata_cause refusal.cause ≡ true) }
+    ensures causes { CausedBy is_metadata_cause result }
 {
     let ends = file_ends(files, name)?;
     let area = area_of(alloc, files, name, &ends)?;
@@ -99,7 +110,7 @@ fn area_metadata(
     requires room { data_end + length area.now < 2 ^ 64 }
     ensures answer { Answers result (defined.area_metadata magic data_end area.now) }
     ensures quiet { Quiet result }
-    ensures causes { IfErr result (λ refusal. is_head_cause refusal.cause ≡ true) }
+    ensures causes { CausedBy is_head_cause result }
 {
     match head_of(alloc, false, magic, data_end, area)? {
         AreaHead::Protected(head) => Ok(head.metadata),
@@ -118,13 +129,16 @@ pub(crate) fn open_area<K: KeyFinder>(
     options: &ReadOptions,
 ) -> Result<Tail, Refusal>
     requires room { data_end + length area.old < 2 ^ 64 }
-    requires short { length area.old ≤ 16842752 }
-    requires short_prefix { IfSome (option_copied prefix) (λ supplied. length supplied ≤ 1024) }
-    ensures answer { Answers result (defined.area_tail (defined.asks_of (K.answer finder.old) (option_copied prefix.entry) options.now.gcm_only options.now.allow_plain) magic data_end area.old) }
-    ensures short { IfErr result (λ refusal. refusal.cause ≡ Truncated → refusal.place ≡ footer_place) }
+    requires short { length area.old ≤ FOOTER_AREA_LIMIT }
+    requires short_prefix { IfSome (option_copied prefix)
+        (λ supplied. length supplied ≤ PREFIX_LIMIT) }
+    ensures answer { Answers result (defined.area_tail (defined.asks_with (K.answer finder.old)
+        (option_copied prefix.entry) options.now) magic data_end area.old) }
+    ensures short { IfErr result (λ refusal. refusal.cause ≡ Truncated
+        → refusal.place ≡ footer_place) }
     ensures same { K.answer finder.new ≡ K.answer finder.old }
     ensures finder { FinderFails (K.faults finder.old) (K.faults finder.new) result }
-    ensures causes { IfErr result (λ refusal. is_area_cause refusal.cause ≡ true) }
+    ensures causes { CausedBy is_area_cause result }
 {
     match head_of(alloc, options.allow_plain, magic, data_end, area)? {
         AreaHead::Protected(head) => {
@@ -146,14 +160,18 @@ fn protected_tail<K: KeyFinder>(
     options: &ReadOptions,
 ) -> Result<Tail, Refusal>
     requires room { data_end + length area.old < 2 ^ 64 }
-    requires short { length area.old ≤ 16842752 }
+    requires short { length area.old ≤ FOOTER_AREA_LIMIT }
     requires fits { defined.HeadFits magic (length area.old) (head_is.Protected head) }
-    requires short_prefix { IfSome (option_copied prefix) (λ supplied. length supplied ≤ 1024) }
-    ensures answer { Answers result (defined.protected_tail (defined.asks_of (K.answer finder.old) (option_copied prefix.entry) options.now.gcm_only options.now.allow_plain) magic data_end area.old head) }
-    ensures short { IfErr result (λ refusal. refusal.cause ≡ Truncated → refusal.place ≡ footer_place) }
+    requires short_prefix { IfSome (option_copied prefix)
+        (λ supplied. length supplied ≤ PREFIX_LIMIT) }
+    ensures answer { Answers result (defined.protected_tail (defined.asks_with
+        (K.answer finder.old)
+        (option_copied prefix.entry) options.now) magic data_end area.old head) }
+    ensures short { IfErr result (λ refusal. refusal.cause ≡ Truncated
+        → refusal.place ≡ footer_place) }
     ensures same { K.answer finder.new ≡ K.answer finder.old }
     ensures finder { FinderFails (K.faults finder.old) (K.faults finder.new) result }
-    ensures causes { IfErr result (λ refusal. is_area_cause refusal.cause ≡ true) }
+    ensures causes { CausedBy is_area_cause result }
 {
     let Head {
         algorithm,
@@ -191,17 +209,18 @@ fn protected_tail<K: KeyFinder>(
     })
 }
 
-/// Reads the unencrypted footer that these bytes are. `prefix` must not be supplied, and no column chunk may be encrypted.
+/// Parses an unencrypted footer. A supplied `prefix` is refused, and so is an encrypted column chunk.
 fn bare_tail(
     alloc: Global,
     data_end: u64,
     bytes: &[u8],
     prefix: Option<&[u8]>,
 ) -> Result<Tail, Refusal>
-    ensures answer { Answers result (defined.bare_tail (option_copied prefix.entry) data_end bytes.now) }
+    ensures answer { Answers result (defined.bare_tail
+        (option_copied prefix.entry) data_end bytes.now) }
     ensures whole { IfErr result (λ refusal. refusal.cause ≡ Truncated → ⊥) }
     ensures quiet { Quiet result }
-    ensures causes { IfErr result (λ refusal. is_area_cause refusal.cause ≡ true) }
+    ensures causes { CausedBy is_area_cause result }
 {
     if prefix.is_some() {
         return Err(refused(Cause::PrefixUnused, Detail::Nothing));
@@ -292,10 +311,12 @@ fn check_algorithm(gcm_only: bool, algorithm: &AlgorithmMeta) -> Result<(), Refu
 
 /// Parses the footer at the front of its bytes, and copies the bytes.
 fn footer_with_bytes(alloc: Global, plain: &[u8]) -> Result<(FileMeta, Bytes), Refusal>
-    ensures answer { IfOk result (λ read. (defined.footer_of plain.now ≡ Ok read.0) × (read.1 ≡ plain.now)) }
-    ensures refused { IfErr result (λ refusal. is_free refusal.cause ≡ false → defined.footer_of plain.now ≡ Err refusal) }
+    ensures answer { IfOk result (λ read. (defined.footer_of plain.now ≡ Ok read.0)
+        × (read.1 ≡ plain.now)) }
+    ensures refused { IfErr result (λ refusal. is_free refusal.cause ≡ false
+        → defined.footer_of plain.now ≡ Err refusal) }
     ensures quiet { Quiet result }
-    ensures causes { HasFileCause result }
+    ensures causes { CausedBy is_file_cause result }
 {
     let (footer, _) = read_file_meta(alloc, &Place::footer(), plain)?;
     let bytes = copy_of(alloc, plain)?;

@@ -1,4 +1,4 @@
-// The end of a file, written.
+// Writing the end of a file: the footer area, its length and the last magic.
 ghost use Rattle.std.specs.Prelude.{◌≡◌, ◌+◌, ◌≤◌, ◌↔◌, ◌++◌, ◌||◌, true, nat_lt, length, take, codes, OnOk, OnErr, IsErrOf};
 ghost use Rattle.std.specs.Int.{w32, to_le_bytes};
 ghost use Rattle.footer_modes.specs.Written as defined;
@@ -7,26 +7,20 @@ use aes_block::AesKey;
 use crypto_module::{ModuleRefusal, write_gcm};
 use gcm_seal::sign;
 use module_aad::FileAad;
-use pme_base::{Bytes, Place};
+use pme_base::{Bytes, FOOTER_AREA_LIMIT, FOOTER_LIMIT, Place};
 use std::alloc::{AllocError, Global};
 
-/// The longest footer in bytes.
-const LONGEST_FOOTER: u32 = 16_777_216;
-
-/// The longest footer area in bytes.
-const LONGEST_AREA: usize = 16_842_752;
-
-/// What a module has beside its plaintext in bytes: its length field, a nonce and a tag.
+/// Bytes of a module beside its plaintext: a length field of 4, a nonce of 12 and a tag of 16.
 const MODULE_OVERHEAD: usize = 32;
 
-/// A signature in bytes: a nonce and a tag.
+/// Bytes of a signature: a nonce of 12 and a tag of 16.
 const SIGNATURE: usize = 28;
 
-/// Adds all that follows the data of a file with an encrypted footer to the end of `into`: the bytes `crypto` of its
-/// FileCryptoMetaData, the sealed module of the footer's bytes, the length of both, and `PARE`.
+/// Appends to `into` all that follows the data of a file with an encrypted footer: the bytes `crypto` of its
+/// FileCryptoMetaData, the footer's bytes as a sealed module, the length of both, and `PARE`.
 ///
-/// A footer of more than 16,777,216 bytes, and one whose area with `crypto` has more than 16,842,752 bytes, is TooLarge.
-/// A refusal leaves `into` unchanged. The bytes are written in `into` itself, so that nothing is taken from `_alloc`.
+/// A footer over `FOOTER_LIMIT` bytes, or an area with `crypto` over `FOOTER_AREA_LIMIT` bytes, is refused as TooLarge. A
+/// refusal leaves `into` unchanged. The module is sealed in `into` itself, so `_alloc` is not used.
 #[tactic(auto, using(crate::proofs::Lengths::too_large_encrypted))]
 pub fn write_encrypted_tail(
     _alloc: Global,
@@ -37,8 +31,10 @@ pub fn write_encrypted_tail(
     footer: &[u8],
     into: &mut Bytes,
 ) -> Result<(), ModuleRefusal>
-    ensures too_large { IsErrOf result ModuleRefusal.TooLarge ↔ (defined.is_too_large footer.now (defined.encrypted_area key.now aad.now nonce.now crypto.now footer.now) ≡ true) }
-    ensures appended { OnOk result (into.new ≡ into.old ++ defined.encrypted_tail key.now aad.now nonce.now crypto.now footer.now) }
+    ensures too_large { IsErrOf result ModuleRefusal.TooLarge ↔ (defined.is_too_large footer.now
+        (defined.encrypted_area key.now aad.now nonce.now crypto.now footer.now) ≡ true) }
+    ensures appended { OnOk result (into.new
+        ≡ into.old ++ defined.encrypted_tail key.now aad.now nonce.now crypto.now footer.now) }
     ensures unchanged { OnErr result (into.new ≡ into.old) }
 {
     if is_too_large(footer, crypto.len() + MODULE_OVERHEAD) {
@@ -54,10 +50,10 @@ pub fn write_encrypted_tail(
     }
 }
 
-/// Adds all that follows the data of a file with a signed footer to the end of `into`: the footer's bytes, the nonce and
-/// the tag that sealing them gives, the length of these three, and `PAR1`.
+/// Appends to `into` all that follows the data of a file with a signed footer: the footer's bytes, the nonce and the tag
+/// of sealing them, the length of these three, and `PAR1`.
 ///
-/// A footer of more than 16,777,216 bytes is TooLarge. A refusal leaves `into` unchanged.
+/// A footer over `FOOTER_LIMIT` bytes is refused as TooLarge. A refusal leaves `into` unchanged.
 pub fn write_signed_tail(
     key: &AesKey,
     aad: &FileAad,
@@ -65,8 +61,10 @@ pub fn write_signed_tail(
     footer: &[u8],
     into: &mut Bytes,
 ) -> Result<(), ModuleRefusal>
-    ensures too_large { IsErrOf result ModuleRefusal.TooLarge ↔ (defined.is_too_large footer.now (defined.signed_area key.now aad.now nonce.now footer.now) ≡ true) }
-    ensures appended { OnOk result (into.new ≡ into.old ++ defined.signed_tail key.now aad.now nonce.now footer.now) }
+    ensures too_large { IsErrOf result ModuleRefusal.TooLarge ↔ (defined.is_too_large footer.now
+        (defined.signed_area key.now aad.now nonce.now footer.now) ≡ true) }
+    ensures appended { OnOk result (into.new
+        ≡ into.old ++ defined.signed_tail key.now aad.now nonce.now footer.now) }
     ensures unchanged { OnErr result (into.new ≡ into.old) }
 {
     if is_too_large(footer, SIGNATURE) {
@@ -82,14 +80,15 @@ pub fn write_signed_tail(
     }
 }
 
-/// Whether a footer is too long, or an area in which `more` bytes stand beside it.
+/// Whether a footer is over its limit, or the footer area that holds it and `more` other bytes is over its own.
 fn is_too_large(footer: &[u8], more: usize) -> bool
-    ensures { result ≡ (nat_lt 16777216 (length footer.now) || nat_lt 16842752 (length footer.now + more)) }
+    ensures { result ≡ (nat_lt FOOTER_LIMIT (length footer.now)
+        || nat_lt FOOTER_AREA_LIMIT (length footer.now + more)) }
 {
-    footer.len() > LONGEST_FOOTER as usize || more > LONGEST_AREA - footer.len()
+    footer.len() > FOOTER_LIMIT as usize || more > FOOTER_AREA_LIMIT as usize - footer.len()
 }
 
-/// Adds an encrypted footer area, its length and `PARE`. A refusal leaves the bytes that were there in front.
+/// Appends an encrypted footer area, its length and `PARE`. After a refusal `into` still begins with its old bytes.
 fn extend_by_encrypted(
     key: &AesKey,
     aad: &FileAad,
@@ -98,10 +97,11 @@ fn extend_by_encrypted(
     footer: &[u8],
     into: &mut Bytes,
 ) -> Result<(), ModuleRefusal>
-    requires short { length footer.now ≤ 16777216 }
+    requires short { length footer.now ≤ FOOTER_LIMIT }
     requires small { length crypto.now ≤ 16842720 }
     ensures free { IsErrOf result ModuleRefusal.TooLarge → ⊥ }
-    ensures appended { OnOk result (into.new ≡ into.old ++ defined.encrypted_tail key.now aad.now nonce.now crypto.now footer.now) }
+    ensures appended { OnOk result (into.new
+        ≡ into.old ++ defined.encrypted_tail key.now aad.now nonce.now crypto.now footer.now) }
     ensures kept { OnErr result (take (length into.old) into.new ≡ into.old) }
 {
     added(crypto, into)?;
@@ -111,7 +111,7 @@ fn extend_by_encrypted(
     added(b"PARE", into)
 }
 
-/// Adds the module of a footer.
+/// Appends a footer as a sealed module.
 fn write_footer(
     key: &AesKey,
     aad: &FileAad,
@@ -119,24 +119,18 @@ fn write_footer(
     footer: &[u8],
     into: &mut Bytes,
 ) -> Result<(), ModuleRefusal>
-    requires short { length footer.now ≤ 16777216 }
+    requires short { length footer.now ≤ FOOTER_LIMIT }
     ensures free { IsErrOf result ModuleRefusal.TooLarge → ⊥ }
-    ensures appended { OnOk result (into.new ≡ defined.encrypted_area key.now aad.now nonce.now into.old footer.now) }
+    ensures appended { OnOk result (into.new
+        ≡ defined.encrypted_area key.now aad.now nonce.now into.old footer.now) }
     ensures unchanged { OnErr result (into.new ≡ into.old) }
 {
     let mut associated = [0; 1095];
     let count = aad.write_aad(&Place::footer(), &mut associated);
-    write_gcm(
-        key,
-        &associated[..count],
-        nonce,
-        LONGEST_FOOTER,
-        footer,
-        into,
-    )
+    write_gcm(key, &associated[..count], nonce, FOOTER_LIMIT, footer, into)
 }
 
-/// Adds `more`.
+/// Appends `more`.
 fn added(more: &[u8], into: &mut Bytes) -> Result<(), ModuleRefusal>
     ensures free { IsErrOf result ModuleRefusal.TooLarge → ⊥ }
     ensures appended { OnOk result (into.new ≡ into.old ++ more.now) }
@@ -148,9 +142,9 @@ fn added(more: &[u8], into: &mut Bytes) -> Result<(), ModuleRefusal>
     }
 }
 
-/// The tag that sealing a footer gives.
+/// The tag of sealing a footer.
 fn footer_tag(key: &AesKey, aad: &FileAad, nonce: &[u8; 12], footer: &[u8]) -> [u8; 16]
-    requires short { length footer.now ≤ 16777216 }
+    requires short { length footer.now ≤ FOOTER_LIMIT }
     ensures { result ≡ defined.footer_tag key.now aad.now nonce.now footer.now }
 {
     let mut associated = [0; 1095];
@@ -158,15 +152,16 @@ fn footer_tag(key: &AesKey, aad: &FileAad, nonce: &[u8; 12], footer: &[u8]) -> [
     sign(key, nonce, &associated[..count], footer)
 }
 
-/// Adds a footer, its signature, and what ends the file. Memory is refused at the first call or not at all.
+/// Appends a footer, its signature, the length of the area and `PAR1`. Memory for all of it is reserved first.
 fn extend_by_signed(
     nonce: &[u8; 12],
     footer: &[u8],
     tag: &[u8; 16],
     into: &mut Vec<u8>,
 ) -> Result<(), AllocError>
-    requires short { length footer.now ≤ 16777216 }
-    ensures appended { OnOk result (into.new.items ≡ into.old.items ++ (footer.now ++ (nonce.now ++ (tag.now ++ (to_le_bytes w32 (length footer.now + 28) ++ codes "PAR1"))))) }
+    requires short { length footer.now ≤ FOOTER_LIMIT }
+    ensures appended { OnOk result (into.new.items ≡ into.old.items ++ (footer.now ++ (nonce.now
+        ++ (tag.now ++ (to_le_bytes w32 (length footer.now + 28) ++ codes "PAR1"))))) }
     ensures unchanged { OnErr result (into.new.items ≡ into.old.items) }
 {
     let area = footer.len() + SIGNATURE;

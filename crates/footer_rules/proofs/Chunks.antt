@@ -1,4 +1,4 @@
--- The chunks of columns, of which the first stands in front.
+-- The column chunks of some columns, from the first one on.
 use Rattle.std.proofs.Common.{arith, ◌≡◌, suc, ◌-◌, ◌≤◌, List, [], ◌∷◌, length, take, drop, Result, Ok, refl}
 use Rattle.std.proofs.Math.ListN.{get_or}
 use Rattle.std.proofs.lemmas.List.{take_all}
@@ -7,7 +7,7 @@ use Rattle.pme_base.specs.declared.refusal.Refusal.{Refusal}
 use Rattle.pme_base.specs.Steps.{◌>>=◌}
 use Rattle.parquet_types.specs.declared.column.ColumnSpec.{ColumnSpec}
 use Rattle.parquet_types.specs.declared.file_meta.ChunkMeta.{ChunkMeta}
-use Rattle.parquet_types.specs.declared.footer_parts.ColumnChunk.{ColumnChunk}
+use Rattle.parquet_types.specs.declared.raw_footer.ColumnChunk.{ColumnChunk}
 use Rattle.footer_rules.specs.FileRules.{chunk_of, chunks_of}
 
 abbrev after : Place → List ColumnSpec → List ColumnChunk → ChunkMeta → Result (List ChunkMeta) Refusal

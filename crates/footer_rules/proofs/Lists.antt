@@ -1,4 +1,4 @@
--- A list that is made in a loop: what is made so far, before the rest or its refusal.
+-- A list that a loop builds: the items so far, followed by the result for the remaining items.
 use Rattle.std.proofs.Common.{◌≡◌, List, [], ◌∷◌, ◌++◌, Result, Ok, Err, refl, ap}
 use Rattle.std.proofs.lemmas.List.{append_assoc}
 use Rattle.pme_base.specs.declared.refusal.Refusal.{Refusal}
@@ -16,6 +16,6 @@ onto_one : {X : Type 0} (front : List X) (x : X) (rest : Result (List X) Refusal
 onto_one front x (Ok rest) = ap Ok (append_assoc front (x ∷ []) rest)
 onto_one front x (Err refusal) = refl
 
--- the next item is made, and then the rest
+-- The next item is appended, and then the remaining items follow.
 pub onto_next : {X : Type 0} (front : List X) (x : X) (made : Result X Refusal) (rest : Result (List X) Refusal) → Ok x ≡ made → onto (front ++ x ∷ []) rest ≡ onto front (made >>= λ y. rest >>= λ ys. Ok (y ∷ ys))
 onto_next front x made rest is = rw (← is) (onto_one front x rest)

@@ -1,4 +1,4 @@
--- Groups of which none counts its rows below 0.
+-- Row groups without negative counts of rows.
 use Rattle.std.proofs.Common.{List, [], ◌∷◌, ◌++◌, pos, ◌≤ℤ◌}
 use Rattle.parquet_types.specs.declared.file_meta.RowGroupMeta.{RowGroupMeta}
 use Rattle.footer_rules.specs.FileRules.{NoneNegative}

@@ -1,4 +1,4 @@
--- The shape of a footer that passed the rules.
+-- The shape of a footer that has passed the rules.
 use Rattle.std.proofs.Common.{◌≡◌, ℕ, zero, suc, ◌+◌, ◌<◌, ◌≤◌, nat_lt, false, ℤ, pos, List, [], ◌∷◌, length, slice_index_or, Option, Some, None, Result, Ok, sym, ap, ◌∙◌, subst, arith, add-zero}
 use Rattle.std.specs.FinSet.{empty, insert}
 use Rattle.std.specs.Ordering.{int_eq}
@@ -12,26 +12,26 @@ use Rattle.parquet_types.specs.declared.column.ColumnSpec.{ColumnSpec}
 use Rattle.parquet_types.specs.declared.file_meta.ChunkMeta.{ChunkMeta}
 use Rattle.parquet_types.specs.declared.file_meta.FileMeta.{FileMeta}
 use Rattle.parquet_types.specs.declared.file_meta.RowGroupMeta.{RowGroupMeta}
-use Rattle.parquet_types.specs.declared.footer_parts.ColumnChunk.{ColumnChunk}
-use Rattle.parquet_types.specs.declared.footer_parts.FileFields.{FileFields}
-use Rattle.parquet_types.specs.declared.footer_parts.RowGroup.{RowGroup}
-use Rattle.parquet_types.specs.declared.footer_parts.SchemaElement.{SchemaElement}
+use Rattle.parquet_types.specs.declared.raw_footer.ColumnChunk.{ColumnChunk}
+use Rattle.parquet_types.specs.declared.raw_footer.RawFileMeta.{RawFileMeta}
+use Rattle.parquet_types.specs.declared.raw_footer.RowGroup.{RowGroup}
+use Rattle.parquet_types.specs.declared.raw_footer.SchemaElement.{SchemaElement}
 use Rattle.footer_rules.specs.FileRules as rule
 use Rattle.footer_rules.specs.Shape.{IsPosition, IsShaped}
 
 same_numbers : (a b : ℕ) → ◌≡◌ {A = ℤ} (pos a) (pos b) → a ≡ b
 same_numbers a b e = cc
 
-numbers_were : (place : Place) (a b : ℤ) (u : Unit {0}) → rule.same_number place a b ≡ Ok u → a ≡ b
+numbers_were : (place : Place) (a b : ℤ) (u : Unit {0}) → rule.check_equal place a b ≡ Ok u → a ≡ b
 numbers_were place a b u e = (Decides-int_eq a b).0 (tested (int_eq a b) tt u _ e).0
 
 no_less : (a b : ℕ) → nat_lt a b ≡ false → b ≤ a
 no_less a b e = grind (arith, nat_tests)
 
-were_few : (place : Place) (n : ℕ) (u : Unit {0}) → rule.not_more place n ≡ Ok u → n ≤ 32768
+were_few : (place : Place) (n : ℕ) (u : Unit {0}) → rule.check_count place n ≡ Ok u → n ≤ 32768
 were_few place n u e = no_less 32768 n (passed (nat_lt 32768 n) _ (Ok tt) u e).0
 
--- a column for each element of the schema, and a chunk for each column
+-- There is a column for each element of the schema after the root, and a column chunk for each column.
 columns_count : (place : Place) (earlier : rule.Names) (elements : List SchemaElement) (columns : List ColumnSpec) → rule.columns_of place earlier elements ≡ Ok columns → length columns ≡ length elements
 columns_count place earlier [] columns e = ap length (sym (ok_same {E = Refusal} [] columns e))
 columns_count place earlier (element ∷ elements) columns e =
@@ -43,8 +43,8 @@ columns_count place earlier (element ∷ elements) columns e =
 schema_few : (place : Place) (elements : List SchemaElement) (columns : List ColumnSpec) → rule.schema_of place elements ≡ Ok columns → length columns ≤ 32768
 schema_few place [] columns e = cc
 schema_few place (root ∷ elements) columns e =
-    let (u, counted, after) = bind_ok (rule.same_number place _ (pos (length elements))) (λ u. rule.not_more place (length elements) >>= λ v. rule.columns_of place empty elements) columns e in
-    let (v, few, made) = bind_ok (rule.not_more place (length elements)) (λ v. rule.columns_of place empty elements) columns after in
+    let (u, counted, after) = bind_ok (rule.check_equal place _ (pos (length elements))) (λ u. rule.check_count place (length elements) >>= λ v. rule.columns_of place empty elements) columns e in
+    let (v, few, made) = bind_ok (rule.check_count place (length elements)) (λ v. rule.columns_of place empty elements) columns after in
     subst (λ n. n ≤ 32768) (sym (columns_count place empty elements columns made)) (were_few place (length elements) v few)
 
 chunks_count : (place : Place) (columns : List ColumnSpec) (chunks : List ColumnChunk) (made : List ChunkMeta) → length chunks ≡ length columns → rule.chunks_of place columns chunks ≡ Ok made → length made ≡ length columns
@@ -56,11 +56,11 @@ chunks_count place (column ∷ columns) (chunk ∷ chunks) made n e =
     let (rest, rest_is, joined) = bind_ok later (λ cs. Ok (c ∷ cs)) made after in
     ap length (sym (ok_same {E = Refusal} (c ∷ rest) made joined)) ∙ ap suc (chunks_count place columns chunks rest (omega arith) rest_is)
 
-position_was : (place : Place) (position : ℕ) (ordinal : Option ℤ) (u : Unit {0}) → rule.in_position place position ordinal ≡ Ok u → IsPosition position ordinal
+position_was : (place : Place) (position : ℕ) (ordinal : Option ℤ) (u : Unit {0}) → rule.check_ordinal place position ordinal ≡ Ok u → IsPosition position ordinal
 position_was place position None u e = tt
 position_was place position (Some ordinal) u e = numbers_were place ordinal (pos position) u e
 
--- a row group that passed, at its position
+-- A row group that has passed, at its position.
 pub record IsGroup (columns position : ℕ) (group : RowGroupMeta) : Type 0 where
   pub whole : length group.chunks ≡ columns
   pub placed : IsPosition position group.ordinal
@@ -68,9 +68,9 @@ pub record IsGroup (columns position : ℕ) (group : RowGroupMeta) : Type 0 wher
 group_is : (place : Place) (columns : List ColumnSpec) (position : ℕ) (group : RowGroup) (made : RowGroupMeta) → rule.group_of place columns position group ≡ Ok made → IsGroup (length columns) position made
 group_is place columns position group made e =
     let last : List ChunkMeta → Result RowGroupMeta Refusal = λ chunks. Ok (record { chunks = chunks; num_rows = group.num_rows; ordinal = group.ordinal }) in
-    let (u, whole, second) = bind_ok (rule.same_number place (pos (length group.chunks)) (pos (length columns))) (λ u. rule.not_negative place name.RowGroup (pos 3) group.num_rows >>= λ v. rule.in_position place position group.ordinal >>= λ w. rule.chunks_of place columns group.chunks >>= last) made e in
-    let (v, counted, third) = bind_ok (rule.not_negative place name.RowGroup (pos 3) group.num_rows) (λ v. rule.in_position place position group.ordinal >>= λ w. rule.chunks_of place columns group.chunks >>= last) made second in
-    let (w, placed, fourth) = bind_ok (rule.in_position place position group.ordinal) (λ w. rule.chunks_of place columns group.chunks >>= last) made third in
+    let (u, whole, second) = bind_ok (rule.check_equal place (pos (length group.chunks)) (pos (length columns))) (λ u. rule.check_not_negative place name.RowGroup (pos 3) group.num_rows >>= λ v. rule.check_ordinal place position group.ordinal >>= λ w. rule.chunks_of place columns group.chunks >>= last) made e in
+    let (v, counted, third) = bind_ok (rule.check_not_negative place name.RowGroup (pos 3) group.num_rows) (λ v. rule.check_ordinal place position group.ordinal >>= λ w. rule.chunks_of place columns group.chunks >>= last) made second in
+    let (w, placed, fourth) = bind_ok (rule.check_ordinal place position group.ordinal) (λ w. rule.chunks_of place columns group.chunks >>= last) made third in
     let (chunks, chunks_are, joined) = bind_ok (rule.chunks_of place columns group.chunks) last made fourth in
     let same : record { chunks = chunks; num_rows = group.num_rows; ordinal = group.ordinal } ≡ made = ok_same {E = Refusal} _ made joined in
     let count : length group.chunks ≡ length columns = same_numbers _ _ (numbers_were place (pos (length group.chunks)) (pos (length columns)) u whole) in
@@ -103,17 +103,17 @@ groups_are place columns position (group ∷ groups) made e =
       subst (λ gs. AreGroups (length columns) position gs) same (groups_next (length columns) position g rest (group_is place columns position group g is) are),
     )
 
-pub shape_of : (place : Place) (fields : FileFields) (meta : FileMeta) → rule.file_of place fields ≡ Ok meta → IsShaped meta
+pub shape_of : (place : Place) (fields : RawFileMeta) (meta : FileMeta) → rule.file_of place fields ≡ Ok meta → IsShaped meta
 shape_of place file meta e =
     let last : List ColumnSpec → List RowGroupMeta → FileMeta = λ columns groups. record { schema = columns; num_rows = file.num_rows; groups = groups; algorithm = file.algorithm; signing_key_metadata = file.signing_key_metadata } in
-    let fifth : List ColumnSpec → List RowGroupMeta → Result FileMeta Refusal = λ columns groups. rule.same_rows place (rule.all_rows groups) file.num_rows >>= λ s. Ok (last columns groups) in
+    let fifth : List ColumnSpec → List RowGroupMeta → Result FileMeta Refusal = λ columns groups. rule.check_rows place (rule.all_rows groups) file.num_rows >>= λ s. Ok (last columns groups) in
     let fourth : List ColumnSpec → Result FileMeta Refusal = λ columns. rule.groups_of place columns 0 file.groups >>= fifth columns in
-    let third : List ColumnSpec → Result FileMeta Refusal = λ columns. rule.not_more place (length file.groups) >>= λ f. fourth columns in
-    let (columns, columns_are, after) = bind_ok (rule.schema_of place file.schema) (λ columns. rule.not_negative place name.FileMetaData (pos 3) file.num_rows >>= λ c. third columns) meta e in
-    let (c, counted, then_few) = bind_ok (rule.not_negative place name.FileMetaData (pos 3) file.num_rows) (λ c. third columns) meta after in
-    let (f, few, then_groups) = bind_ok (rule.not_more place (length file.groups)) (λ f. fourth columns) meta then_few in
+    let third : List ColumnSpec → Result FileMeta Refusal = λ columns. rule.check_count place (length file.groups) >>= λ f. fourth columns in
+    let (columns, columns_are, after) = bind_ok (rule.schema_of place file.schema) (λ columns. rule.check_not_negative place name.FileMetaData (pos 3) file.num_rows >>= λ c. third columns) meta e in
+    let (c, counted, then_few) = bind_ok (rule.check_not_negative place name.FileMetaData (pos 3) file.num_rows) (λ c. third columns) meta after in
+    let (f, few, then_groups) = bind_ok (rule.check_count place (length file.groups)) (λ f. fourth columns) meta then_few in
     let (groups, are, then_rows) = bind_ok (rule.groups_of place columns 0 file.groups) (fifth columns) meta then_groups in
-    let (s, summed, made) = bind_ok (rule.same_rows place (rule.all_rows groups) file.num_rows) (λ s. Ok (last columns groups)) meta then_rows in
+    let (s, summed, made) = bind_ok (rule.check_rows place (rule.all_rows groups) file.num_rows) (λ s. Ok (last columns groups)) meta then_rows in
     let same : last columns groups ≡ meta = ok_same {E = Refusal} (last columns groups) meta made in
     let (count, each) = groups_are place columns 0 file.groups groups are in
     let shaped : IsShaped (last columns groups) = record {

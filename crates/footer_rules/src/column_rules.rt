@@ -1,11 +1,12 @@
-// The rules on a schema: a root, and columns that are its leaves.
-ghost use Rattle.std.specs.Prelude.{◌≡◌, true, OnOk};
+// The rules on a schema: a root element, and columns that are its only descendants.
+ghost use Rattle.std.specs.Prelude.{◌≡◌, OnOk};
 ghost use Rattle.std.specs.FinSet as set;
 ghost use Rattle.std.specs.Str as str;
+ghost use Rattle.pme_base.specs.Causes.{CausedBy};
 ghost use Rattle.pme_base.specs.Steps.{Answers, Quiet};
 ghost use Rattle.footer_rules.specs.FileRules as rules;
 
-use crate::value_rules::{bad_value, not_more, same_number};
+use crate::value_rules::{bad_value, check_count, check_equal};
 use parquet_types::{ColumnKind, ColumnSpec, FlatSchema, SchemaElement};
 use pme_base::{Cause, NameSet, Place, Refusal, Sequence, SequenceIter, StructName, plain_refusal};
 use std::alloc::Global;
@@ -16,11 +17,11 @@ fn bad_element(place: Place, cause: Cause, field: i16) -> Refusal
     bad_value(place, cause, StructName::SchemaElement, field)
 }
 
-/// Refuses an element with children.
-fn leaf(place: Place, num_children: Option<i32>) -> Result<(), Refusal>
-    ensures answer { result ≡ rules.leaf place num_children }
+/// Refuses an element that has children, since schemas are flat.
+fn check_is_leaf(place: Place, num_children: Option<i32>) -> Result<(), Refusal>
+    ensures answer { result ≡ rules.check_is_leaf place num_children }
     ensures quiet { Quiet result }
-    ensures causes { rules.is_rule_result result ≡ true }
+    ensures causes { CausedBy rules.is_rule_cause result }
 {
     match num_children {
         None | Some(0) => Ok(()),
@@ -28,11 +29,11 @@ fn leaf(place: Place, num_children: Option<i32>) -> Result<(), Refusal>
     }
 }
 
-/// The type FIXED_LEN_BYTE_ARRAY of this length in bytes.
+/// FIXED_LEN_BYTE_ARRAY with the given length in bytes.
 fn fixed_length(place: Place, length: Option<i32>) -> Result<ColumnKind, Refusal>
     ensures answer { result ≡ rules.fixed_length place length }
     ensures quiet { Quiet result }
-    ensures causes { rules.is_rule_result result ≡ true }
+    ensures causes { CausedBy rules.is_rule_cause result }
 {
     match length {
         None => Err(bad_element(place, Cause::MissingField, 2)),
@@ -41,11 +42,11 @@ fn fixed_length(place: Place, length: Option<i32>) -> Result<ColumnKind, Refusal
     }
 }
 
-/// The physical type of this number.
+/// The physical type with the given number of `Type` in `parquet.thrift`.
 fn kind_of(place: Place, number: Option<i32>, length: Option<i32>) -> Result<ColumnKind, Refusal>
     ensures answer { result ≡ rules.kind_of place number length }
     ensures quiet { Quiet result }
-    ensures causes { rules.is_rule_result result ≡ true }
+    ensures causes { CausedBy rules.is_rule_cause result }
 {
     match number {
         None => Err(bad_element(place, Cause::MissingField, 1)),
@@ -61,11 +62,11 @@ fn kind_of(place: Place, number: Option<i32>, length: Option<i32>) -> Result<Col
     }
 }
 
-/// Whether a column may hold nulls, by its repetition.
+/// Whether a column is OPTIONAL, by its repetition type. REPEATED columns are unsupported.
 fn optional_of(place: Place, repetition: Option<i32>) -> Result<bool, Refusal>
     ensures answer { result ≡ rules.optional_of place repetition }
     ensures quiet { Quiet result }
-    ensures causes { rules.is_rule_result result ≡ true }
+    ensures causes { CausedBy rules.is_rule_cause result }
 {
     match repetition {
         None => Err(bad_element(place, Cause::MissingField, 3)),
@@ -85,12 +86,12 @@ fn is_utf8(bytes: &[u8]) -> bool
     }
 }
 
-/// Refuses a name that is no text or that an earlier column has, and adds it to the earlier ones.
-fn fresh_name(place: Place, earlier: &mut NameSet, name: &[u8]) -> Result<(), Refusal>
-    ensures answer { Answers result (rules.fresh_name place name.now earlier.old) }
+/// Refuses a column name that isn't UTF-8 or is the name of an earlier column, and adds it to the earlier names.
+fn check_name(place: Place, earlier: &mut NameSet, name: &[u8]) -> Result<(), Refusal>
+    ensures answer { Answers result (rules.check_name place name.now earlier.old) }
     ensures added { OnOk result (earlier.new ≡ set.insert earlier.old name.now) }
     ensures quiet { Quiet result }
-    ensures causes { rules.is_rule_result result ≡ true }
+    ensures causes { CausedBy rules.is_rule_cause result }
 {
     if !is_utf8(name) {
         return Err(bad_element(place, Cause::BadField, 4));
@@ -102,7 +103,7 @@ fn fresh_name(place: Place, earlier: &mut NameSet, name: &[u8]) -> Result<(), Re
     }
 }
 
-/// Whether the bytes of a column are text: byte arrays whose converted type is UTF8, which is 0.
+/// Whether a column holds text: byte arrays with the converted type UTF8, which is 0.
 fn is_text(kind: ColumnKind, converted: Option<i32>) -> bool
     ensures { result ≡ rules.is_text kind converted }
 {
@@ -112,7 +113,7 @@ fn is_text(kind: ColumnKind, converted: Option<i32>) -> bool
     }
 }
 
-/// The column of an element, after the columns of these names.
+/// The column of a schema element; `earlier` holds the names of the columns before it.
 fn column_of(
     place: Place,
     earlier: &mut NameSet,
@@ -121,12 +122,12 @@ fn column_of(
     ensures answer { Answers result (rules.column_of place earlier.old element) }
     ensures added { OnOk result (earlier.new ≡ set.insert earlier.old element.name) }
     ensures quiet { Quiet result }
-    ensures causes { rules.is_rule_result result ≡ true }
+    ensures causes { CausedBy rules.is_rule_cause result }
 {
-    leaf(place, element.num_children)?;
+    check_is_leaf(place, element.num_children)?;
     let kind = kind_of(place, element.kind, element.type_length)?;
     let optional = optional_of(place, element.repetition)?;
-    fresh_name(place, earlier, element.name.as_slice())?;
+    check_name(place, earlier, element.name.as_slice())?;
     Ok(ColumnSpec {
         name: element.name,
         kind,
@@ -135,7 +136,7 @@ fn column_of(
     })
 }
 
-/// The columns of a schema, by its elements after the root.
+/// The columns of a schema, from its elements after the root.
 fn columns_of(
     alloc: Global,
     place: Place,
@@ -143,7 +144,7 @@ fn columns_of(
 ) -> Result<FlatSchema, Refusal>
     ensures answer { Answers result (rules.columns_of place set.empty elements) }
     ensures quiet { Quiet result }
-    ensures causes { rules.is_rule_result result ≡ true }
+    ensures causes { CausedBy rules.is_rule_cause result }
 {
     let mut earlier = NameSet::new(alloc);
     let mut columns = Sequence::new(alloc);
@@ -158,7 +159,7 @@ fn columns_of(
     Ok(columns)
 }
 
-/// The columns of a schema.
+/// The columns of a schema, whose first element is the root. Refuses more than 32,768 columns.
 pub fn schema_of(
     alloc: Global,
     place: Place,
@@ -166,7 +167,7 @@ pub fn schema_of(
 ) -> Result<FlatSchema, Refusal>
     ensures answer { Answers result (rules.schema_of place schema) }
     ensures quiet { Quiet result }
-    ensures causes { rules.is_rule_result result ≡ true }
+    ensures causes { CausedBy rules.is_rule_cause result }
 {
     let count = schema.as_slice().len();
     let mut elements = schema.into_items();
@@ -176,7 +177,7 @@ pub fn schema_of(
     };
     let columns = count - 1;
     let counted = root.num_children.unwrap_or(0);
-    same_number(place, counted as i64, columns as i64)?;
-    not_more(place, columns)?;
+    check_equal(place, counted as i64, columns as i64)?;
+    check_count(place, columns)?;
     columns_of(alloc, place, elements)
 }

@@ -1,23 +1,24 @@
-// The rules on a footer, in their order. The parts of the fields are moved into what they make.
-ghost use Rattle.std.specs.Prelude.{◌≡◌, true};
+// The rules on a footer, in their order. The values of its fields are moved into the result, not copied.
+ghost use Rattle.std.specs.Prelude.{◌≡◌};
+ghost use Rattle.pme_base.specs.Causes.{CausedBy};
 ghost use Rattle.pme_base.specs.Steps.{Answers, Quiet};
 ghost use Rattle.footer_rules.specs.FileRules as rules;
 
 use crate::column_rules::schema_of;
-use crate::group_rules::{all_rows, groups_of, same_rows};
-use crate::value_rules::{not_more, not_negative};
-use parquet_types::{FileFields, FileMeta};
+use crate::group_rules::{all_rows, check_rows, groups_of};
+use crate::value_rules::{check_count, check_not_negative};
+use parquet_types::{FileMeta, RawFileMeta};
 use pme_base::{Place, Refusal, StructName};
 use std::alloc::Global;
 
-/// The footer of these fields, or the first rule that they break: MissingField, BadField, Unsupported, Mismatch or
-/// TooLarge at `place`.
-pub fn file_of(alloc: Global, place: Place, fields: FileFields) -> Result<FileMeta, Refusal>
+/// Applies the rules on a footer in their order and gives the footer that passes, or the first refusal, at `place`:
+/// MissingField, BadField, Unsupported, Mismatch, TooLarge, or OutOfMemory, which has no place.
+pub fn file_of(alloc: Global, place: Place, fields: RawFileMeta) -> Result<FileMeta, Refusal>
     ensures answer { Answers result (rules.file_of place fields) }
     ensures quiet { Quiet result }
-    ensures causes { rules.is_rule_result result ≡ true }
+    ensures causes { CausedBy rules.is_rule_cause result }
 {
-    let FileFields {
+    let RawFileMeta {
         schema,
         num_rows,
         groups,
@@ -25,10 +26,10 @@ pub fn file_of(alloc: Global, place: Place, fields: FileFields) -> Result<FileMe
         signing_key_metadata,
     } = fields;
     let columns = schema_of(alloc, place, schema)?;
-    not_negative(place, StructName::FileMetaData, 3, num_rows)?;
-    not_more(place, groups.as_slice().len())?;
+    check_not_negative(place, StructName::FileMetaData, 3, num_rows)?;
+    check_count(place, groups.as_slice().len())?;
     let groups = groups_of(alloc, place, columns.as_slice(), groups.into_items())?;
-    same_rows(place, all_rows(groups.as_slice()), num_rows)?;
+    check_rows(place, all_rows(groups.as_slice()), num_rows)?;
     Ok(FileMeta {
         schema: columns,
         num_rows,

@@ -1,20 +1,21 @@
-// The rules on row groups: a chunk for each column, in the file itself, and the rows.
-ghost use Rattle.std.specs.Prelude.{◌≡◌, true, ◌≤◌, ◌≤ℤ◌, pos, length, IfOk};
+// The rules on row groups: a column chunk for each column, no chunk in another file, and the counts of rows.
+ghost use Rattle.std.specs.Prelude.{◌≡◌, ◌≤◌, ◌≤ℤ◌, pos, length, IfOk};
+ghost use Rattle.pme_base.specs.Causes.{CausedBy};
 ghost use Rattle.pme_base.specs.Steps.{Answers, Quiet};
 ghost use Rattle.footer_rules.specs.FileRules as rules;
 
-use crate::value_rules::{bad_value, not_negative, same_number};
+use crate::value_rules::{bad_value, check_equal, check_not_negative};
 use parquet_types::{
     ChunkCrypto, ChunkList, ChunkMeta, ColumnChunk, ColumnCrypto, ColumnSpec, GroupList, RowGroup,
     RowGroupMeta,
 };
 use pme_base::{
-    Bytes, Cause, Detail, OutOfMemory, Place, Refusal, Sequence, SequenceIter, StructName,
-    plain_refusal, refusal_at,
+    Bytes, COLUMN_LIMIT, Cause, Detail, OutOfMemory, Place, Refusal, Sequence, SequenceIter,
+    StructName, plain_refusal, refusal_at,
 };
 use std::alloc::Global;
 
-/// A path as one text, its names joined by points.
+/// The names of a path joined by dots.
 fn path_text(alloc: Global, path: &[Bytes]) -> Result<Bytes, OutOfMemory>
     ensures { IfOk result (λ text. text ≡ rules.path_text path.now) }
 {
@@ -31,7 +32,7 @@ fn path_text(alloc: Global, path: &[Bytes]) -> Result<Bytes, OutOfMemory>
     Ok(text)
 }
 
-/// Whether a path is the one name `column`.
+/// Whether the path has the single name `column`.
 fn is_path_of(path: &[Bytes], column: &[u8]) -> bool
     ensures { result ≡ rules.is_path_of path.now column.now }
 {
@@ -41,31 +42,31 @@ fn is_path_of(path: &[Bytes], column: &[u8]) -> bool
     }
 }
 
-/// A path and the name of a column, as they are told.
-fn told_names(alloc: Global, path: &[Bytes], column: &[u8]) -> Result<Detail, OutOfMemory>
-    ensures { IfOk result (λ told. told ≡ rules.told_names path.now column.now) }
+/// The detail of a refused path: the path joined by dots, and the column's name.
+fn names_detail(alloc: Global, path: &[Bytes], column: &[u8]) -> Result<Detail, OutOfMemory>
+    ensures { IfOk result (λ detail. detail ≡ rules.names_detail path.now column.now) }
 {
     let found = path_text(alloc, path)?;
     let wanted = Bytes::copy_of(alloc, column)?;
     Ok(Detail::Names(found, wanted))
 }
 
-/// Refuses a path other than the one name of the column.
-fn own_path(alloc: Global, place: Place, path: &[Bytes], column: &[u8]) -> Result<(), Refusal>
-    ensures answer { Answers result (rules.own_path place path.now column.now) }
+/// Refuses a path other than the single name `column`.
+fn check_path(alloc: Global, place: Place, path: &[Bytes], column: &[u8]) -> Result<(), Refusal>
+    ensures answer { Answers result (rules.check_path place path.now column.now) }
     ensures quiet { Quiet result }
-    ensures causes { rules.is_rule_result result ≡ true }
+    ensures causes { CausedBy rules.is_rule_cause result }
 {
     if is_path_of(path, column) {
         return Ok(());
     }
-    match told_names(alloc, path, column) {
-        Ok(told) => Err(refusal_at(Cause::Mismatch, place, 0, told)),
+    match names_detail(alloc, path, column) {
+        Ok(detail) => Err(refusal_at(Cause::Mismatch, place, 0, detail)),
         Err(_) => Err(plain_refusal(Cause::OutOfMemory)),
     }
 }
 
-/// The key of a chunk of the column of this name.
+/// The key of a column chunk, whose column has the name `column`.
 fn chunk_crypto(
     alloc: Global,
     place: Place,
@@ -74,23 +75,23 @@ fn chunk_crypto(
 ) -> Result<ChunkCrypto, Refusal>
     ensures answer { Answers result (rules.chunk_crypto place column.now crypto) }
     ensures quiet { Quiet result }
-    ensures causes { rules.is_rule_result result ≡ true }
+    ensures causes { CausedBy rules.is_rule_cause result }
 {
     match crypto {
         None => Ok(ChunkCrypto::Plain),
         Some(ColumnCrypto::FooterKey) => Ok(ChunkCrypto::FooterKey),
         Some(ColumnCrypto::ColumnKey { path, key_metadata }) => {
-            own_path(alloc, place, path.as_slice(), column)?;
+            check_path(alloc, place, path.as_slice(), column)?;
             Ok(ChunkCrypto::ColumnKey(key_metadata))
         }
     }
 }
 
-/// Refuses a chunk in another file.
-fn same_file(place: Place, file_path: &Option<Bytes>) -> Result<(), Refusal>
-    ensures answer { result ≡ rules.same_file place file_path.now }
+/// Refuses a column chunk that is stored in another file.
+fn check_same_file(place: Place, file_path: &Option<Bytes>) -> Result<(), Refusal>
+    ensures answer { result ≡ rules.check_same_file place file_path.now }
     ensures quiet { Quiet result }
-    ensures causes { rules.is_rule_result result ≡ true }
+    ensures causes { CausedBy rules.is_rule_cause result }
 {
     match file_path {
         None => Ok(()),
@@ -98,7 +99,7 @@ fn same_file(place: Place, file_path: &Option<Bytes>) -> Result<(), Refusal>
     }
 }
 
-/// A chunk of the column of this name.
+/// The column chunk of the column with the name `column`.
 fn chunk_of(
     alloc: Global,
     place: Place,
@@ -107,9 +108,9 @@ fn chunk_of(
 ) -> Result<ChunkMeta, Refusal>
     ensures answer { Answers result (rules.chunk_of place column.now chunk) }
     ensures quiet { Quiet result }
-    ensures causes { rules.is_rule_result result ≡ true }
+    ensures causes { CausedBy rules.is_rule_cause result }
 {
-    same_file(place, &chunk.file_path)?;
+    check_same_file(place, &chunk.file_path)?;
     let crypto = chunk_crypto(alloc, place, column, chunk.crypto)?;
     Ok(ChunkMeta {
         crypto,
@@ -118,7 +119,7 @@ fn chunk_of(
     })
 }
 
-/// The chunks of the columns, in their order.
+/// The column chunks of the given columns, in their order.
 fn chunks_of(
     alloc: Global,
     place: Place,
@@ -127,7 +128,7 @@ fn chunks_of(
 ) -> Result<ChunkList, Refusal>
     ensures answer { Answers result (rules.chunks_of place columns.now chunks) }
     ensures quiet { Quiet result }
-    ensures causes { rules.is_rule_result result ≡ true }
+    ensures causes { CausedBy rules.is_rule_cause result }
 {
     let mut list = Sequence::new(alloc);
     let mut rest = chunks;
@@ -147,19 +148,19 @@ fn chunks_of(
     Ok(list)
 }
 
-/// Refuses an ordinal other than the position.
-fn in_position(place: Place, position: u32, ordinal: Option<i16>) -> Result<(), Refusal>
-    ensures answer { result ≡ rules.in_position place position ordinal }
+/// Refuses an ordinal that isn't the position of the row group.
+fn check_ordinal(place: Place, position: u32, ordinal: Option<i16>) -> Result<(), Refusal>
+    ensures answer { result ≡ rules.check_ordinal place position ordinal }
     ensures quiet { Quiet result }
-    ensures causes { rules.is_rule_result result ≡ true }
+    ensures causes { CausedBy rules.is_rule_cause result }
 {
     match ordinal {
         None => Ok(()),
-        Some(ordinal) => same_number(place, ordinal as i64, position as i64),
+        Some(ordinal) => check_equal(place, ordinal as i64, position as i64),
     }
 }
 
-/// The row group at a position.
+/// The row group at `position`, counted from 0.
 fn group_of(
     alloc: Global,
     place: Place,
@@ -170,7 +171,7 @@ fn group_of(
     ensures answer { Answers result (rules.group_of place columns.now position group) }
     ensures least { IfOk result (λ group. pos 0 ≤ℤ group.num_rows) }
     ensures quiet { Quiet result }
-    ensures causes { rules.is_rule_result result ≡ true }
+    ensures causes { CausedBy rules.is_rule_cause result }
 {
     let RowGroup {
         chunks,
@@ -178,9 +179,9 @@ fn group_of(
         ordinal,
     } = group;
     let count = chunks.as_slice().len();
-    same_number(place, count as i64, columns.len() as i64)?;
-    not_negative(place, StructName::RowGroup, 3, num_rows)?;
-    in_position(place, position, ordinal)?;
+    check_equal(place, count as i64, columns.len() as i64)?;
+    check_not_negative(place, StructName::RowGroup, 3, num_rows)?;
+    check_ordinal(place, position, ordinal)?;
     let chunks = chunks_of(alloc, place, columns, chunks.into_items())?;
     Ok(RowGroupMeta {
         chunks,
@@ -189,18 +190,18 @@ fn group_of(
     })
 }
 
-/// The row groups, of which there are at most 32,768.
+/// The row groups of a file, of which there are at most 32,768.
 pub fn groups_of(
     alloc: Global,
     place: Place,
     columns: &[ColumnSpec],
     groups: SequenceIter<RowGroup>,
 ) -> Result<GroupList, Refusal>
-    requires { length groups ≤ 32768 }
+    requires { length groups ≤ COLUMN_LIMIT }
     ensures answer { Answers result (rules.groups_of place columns.now 0 groups) }
     ensures least { IfOk result (λ groups. rules.NoneNegative groups) }
     ensures quiet { Quiet result }
-    ensures causes { rules.is_rule_result result ≡ true }
+    ensures causes { CausedBy rules.is_rule_cause result }
 {
     let mut list = Sequence::new(alloc);
     let mut rest = groups;
@@ -216,7 +217,8 @@ pub fn groups_of(
     Ok(list)
 }
 
-/// The rows of all groups. Each count of 64 bits is below 2^63, and there are fewer than 2^63 groups.
+/// The sum of the row groups' counts of rows. It can't overflow: each is below 2^63, and there are fewer than 2^63
+/// row groups.
 pub fn all_rows(groups: &[RowGroupMeta]) -> u128
     requires { rules.NoneNegative groups.now }
     ensures { pos result ≡ rules.all_rows groups.now }
@@ -230,14 +232,14 @@ pub fn all_rows(groups: &[RowGroupMeta]) -> u128
     sum
 }
 
-/// Refuses groups whose rows are not those of the file.
-pub fn same_rows(place: Place, sum: u128, num_rows: i64) -> Result<(), Refusal>
-    ensures answer { result ≡ rules.same_rows place (pos sum) num_rows }
+/// Refuses row groups whose counts of rows don't add up to `num_rows`, the count of the file.
+pub fn check_rows(place: Place, sum: u128, num_rows: i64) -> Result<(), Refusal>
+    ensures answer { result ≡ rules.check_rows place (pos sum) num_rows }
     ensures quiet { Quiet result }
-    ensures causes { rules.is_rule_result result ≡ true }
+    ensures causes { CausedBy rules.is_rule_cause result }
 {
     if (i64::MAX as u128) < sum {
         return Err(bad_value(place, Cause::BadField, StructName::FileMetaData, 3));
     }
-    same_number(place, sum as i64, num_rows)
+    check_equal(place, sum as i64, num_rows)
 }

@@ -1,5 +1,5 @@
-// The rules on a footer's values, in their order: a flat schema, a chunk for each column of each row group, and rows that
-// add up. The parts of a footer as its fields were read become the footer, or the first rule that they break is told.
+//! The rules on the values of a footer, in their order: a flat schema, a column chunk for each column in each row
+//! group, and counts of rows that add up. The result is the footer, or the refusal by the first rule that is broken.
 #![tactic(auto)]
 
 mod column_rules;

@@ -1,4 +1,4 @@
--- The field's product: linear in its first factor, with 1 as its unit, and associative.
+-- The product of the field is linear in its first factor, has the unit 1, and is associative.
 use Rattle.std.proofs.Common.{◌≡◌, ℕ, zero, suc, ◌+◌, ◌*◌, ◌/◌, ◌%◌, ◌^◌, ◌<◌, bit_xor, refl, sym, ap, ◌∙◌, arith}
 use Rattle.std.specs.Int.{bit_at}
 use Rattle.std.specs.Int.Bits.{xor_zero_r}
@@ -26,7 +26,7 @@ scaled p c h =
     (let e : 0 * c ≡ 0 = omega arith in let f : 0 * reduced c ≡ 0 = omega arith in rw (e, f) (reduced_small 0 (omega arith)))
     (let e : 1 * c ≡ c = omega arith in let f : 1 * reduced c ≡ reduced c = omega arith in rw (e, f) refl)
 
--- one more coefficient of the first factor
+-- the product with one more coefficient of the first factor
 pub sum_more : (a b n : ℕ) → reduced (product_below a b (suc n)) ≡ bit_xor (reduced (product_below a b n)) (bit_at a n * reduced (b * 2 ^ n))
 sum_more a b n =
     ap reduced (product-more a b n) ∙ reduced-xor (product_below a b n) (bit_at a n * (b * 2 ^ n))
@@ -81,7 +81,7 @@ folded_low c h =
     let small : folded (times_low c) < 2 ^ 128 = low_lt c h in
     folded_small (folded (times_low c)) small ∙ sym (ap folded (shifted c))
 
--- the coefficient that doubling moves to x^128
+-- the coefficient that the product with x moves to x^128
 over : (t c : ℕ) → t < 2 → c < 2 ^ 128 → reduced (product_below (times_low t) c 128) ≡ t * reduced (c * 2 ^ 128)
 unfolding times_low
 over t c h small =
@@ -122,7 +122,7 @@ reduced-suc b n hb hn =
     let e : b * 2 ^ suc n ≡ b * 2 ^ n * 2 = rw (pow-suc n) (omega arith) in
     ap reduced e ∙ reduced-double (b * 2 ^ n) (omega arith)
 
--- a factor times x^n
+-- the product of a factor with x^n
 shifted_mul : (b c n : ℕ) → b < 2 ^ 128 → c < 2 ^ 128 → n < 129 → field_mul (reduced (b * 2 ^ n)) c ≡ reduced (field_mul b c * 2 ^ n)
 shifted_mul b c zero hb hc hn =
     let e : b * 2 ^ 0 ≡ b = omega arith in
@@ -137,7 +137,7 @@ shifted_mul b c (suc n) hb hc hn =
     ∙ ap xtimes (shifted_mul b c n hb hc (omega arith))
     ∙ sym (reduced-suc (field_mul b c) n product (omega arith))
 
--- over the coefficients of a below x^n
+-- induction over the coefficients of a below x^n
 assoc_below : (a b c n : ℕ) → b < 2 ^ 128 → c < 2 ^ 128 → n < 129 → field_mul (reduced (product_below a b n)) c ≡ reduced (product_below a (field_mul b c) n)
 assoc_below a b c zero hb hc hn =
     ap (λ d. field_mul d c) (ap reduced (product-none a b) ∙ reduced_small 0 (omega arith)) ∙ field_mul-none c

@@ -1,4 +1,4 @@
--- Folding by the modulus of GHASH is linear, ends after two folds, and passes through doubling.
+-- The reduction step (`folded`) is linear, two steps reduce a product completely, and it commutes with doubling.
 use Rattle.std.proofs.Common.{◌≡◌, ℕ, ◌+◌, ◌*◌, ◌/◌, ◌%◌, ◌^◌, ◌<◌, bit_xor, refl, sym, ap, ◌∙◌, arith}
 use Rattle.std.specs.Int.Bits.{xor_assoc, xor_zero_r}
 use Rattle.std.proofs.lemmas.Nat.{xor_comm, xor_lt, xor_shr, xor_mod, pow-add, shr_below}
@@ -60,7 +60,7 @@ folded_of_200 p h =
     let low : p % 2 ^ 128 < 2 ^ 128 = omega arith in
     xor_lt 128 (p % 2 ^ 128) (times_low (p / 2 ^ 128)) (omega arith) (omega arith)
 
--- twice folded
+-- two reduction steps
 abbrev pub reduced : ℕ → ℕ
 reduced p = folded (folded p)
 
@@ -80,12 +80,12 @@ xtimes p = folded (p * 2)
 pub xtimes-xor : (a b : ℕ) → xtimes (bit_xor a b) ≡ bit_xor (xtimes a) (xtimes b)
 xtimes-xor a b = ap folded (xor_shl a b 1) ∙ folded-xor (a * 2) (b * 2)
 
--- the modulus without x^128 is what a bit at x^128 folds to
+-- x^128 reduces to the modulus without x^128
 pub bit_folds : (t : ℕ) → t < 2 → folded (times_low t) ≡ folded (t * 2 ^ 128)
 unfolding folded times_low
 bit_folds t h = bit_times (λ t. folded (times_low t) ≡ folded (t * 2 ^ 128)) t h refl refl
 
--- to double before a fold or after it is the same once folded again
+-- doubling before or after a reduction step gives the same result after one more step
 pub folded-double : (p : ℕ) → folded (folded (p * 2)) ≡ folded (folded p * 2)
 unfolding folded
 folded-double p =

@@ -1,4 +1,4 @@
--- Numbers of 128 bits in the order of a block, first bit highest, and the polynomials that they stand for.
+-- Numbers of 128 bits in the bit order of a block, first bit highest, and the polynomials that they represent.
 use Rattle.std.proofs.Common.{◌≡◌, ℕ, zero, suc, ◌+◌, ◌-◌, ◌*◌, ◌/◌, ◌%◌, ◌^◌, ◌<◌, bit_xor, refl, sym, ap, ◌∙◌, arith}
 use Rattle.std.specs.Int.{bit_at}
 use Rattle.std.proofs.lemmas.Nat.{xor_lt, shl-shr}
@@ -39,18 +39,18 @@ half_bit v (suc i) h low =
     sym (bit_at-suc v (127 - suc i)) ∙ ap (bit_at v) e ∙ sym (bit_at-reversed v i (omega arith))
     ∙ sym (bit_at-suc (reversed v * 2) i ∙ ap (λ d. bit_at d i) (shl-shr (reversed v) 1))
 
--- a shift towards the last bit is a product with x, but for the bit that falls out
+-- a right shift is a product with x, except for the bit that is shifted out
 pub reversed-half : (v : ℕ) → v < 2 ^ 128 → reversed (v / 2) ≡ reversed v * 2 % 2 ^ 128
 reversed-half v h =
     same_from_bits_below 128 (reversed (v / 2)) (reversed v * 2 % 2 ^ 128) (reversed_lt (v / 2)) (omega arith)
     (λ i low. bit_at-reversed (v / 2) i low ∙ half_bit v i h low ∙ sym (low_bits (reversed v * 2) 128 i low))
 
--- the polynomial 0xe1 at the front of a block is the modulus without x^128
+-- a block with first byte 0xe1 and zeros represents the modulus without x^128
 last_folds : (t : ℕ) → t < 2 → reversed (t * (0xe1 * 2 ^ 120)) ≡ times_low t
 unfolding reversed number_below times_low
 last_folds t h = bit_times (λ t. reversed (t * (0xe1 * 2 ^ 120)) ≡ times_low t) t h refl refl
 
--- the product with x, in the order of a block
+-- the product with x, in the bit order of a block
 pub reversed_step : (v : ℕ) → v < 2 ^ 128 → reversed (bit_xor (v / 2) (v % 2 * (0xe1 * 2 ^ 120))) ≡ xtimes (reversed v)
 unfolding folded
 reversed_step v h =

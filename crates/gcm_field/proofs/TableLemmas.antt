@@ -1,4 +1,4 @@
--- The products in a hash key's table.
+-- Lemmas about the products in a hash key's table.
 use Rattle.std.proofs.Common.{◌≡◌, ℕ, suc, ◌+◌, ◌-◌, ◌*◌, ◌/◌, ◌%◌, ◌^◌, ◌<◌, bit_xor, [], ◌∷◌, get_or, refl, sym, ap, ◌∙◌, arith, inl, inr}
 use Rattle.std.specs.Int.{bit_at}
 use Rattle.std.proofs.lemmas.Bool.{cases_eq}
@@ -30,7 +30,7 @@ pub multiple-none : (h : ℕ) → multiple h 0 ≡ 0
 unfolding multiple
 multiple-none h = ap (λ p. reversed (field_mul p h)) reversed-none ∙ ap reversed (field_mul-none h) ∙ reversed-none
 
--- in the order of a block the first bit is x^0
+-- in the bit order of a block, the first bit is the coefficient of x^0
 pub reversed-pow : (n : ℕ) → n < 128 → reversed (2 ^ (127 - n)) ≡ 2 ^ n
 reversed-pow n h =
     same_from_bits_below 128 (reversed (2 ^ (127 - n))) (2 ^ n) (reversed_lt (2 ^ (127 - n))) (pow_below n 128 h)
@@ -42,7 +42,7 @@ reversed-pow n h =
           bit_at-pow_other (127 - n) (127 - i) (λ e. other (omega arith)) ∙ sym (bit_at-pow_other n i other)
     ])
 
--- the product with one power of x
+-- the product with a power of x
 pub multiple_single : (h n : ℕ) → n < 128 → multiple h (2 ^ (127 - n)) ≡ reversed (reduced (h * 2 ^ n))
 unfolding multiple field_mul
 multiple_single h n small =
@@ -51,7 +51,7 @@ multiple_single h n small =
     ∙ ap (λ m. reversed (reduced (product_below (2 ^ n) h m))) e
     ∙ ap (λ p. reversed (reduced p)) (product-pow n h (127 - n))
 
--- what the table's chain of doublings keeps
+-- the invariant of the repeated products with x in `fill_table`
 abbrev pub IsPower : ℕ → ℕ → ℕ → Type 0
 IsPower h n v = (v < 2 ^ 128) × (reversed v ≡ reduced (h * 2 ^ n))
 
@@ -62,7 +62,7 @@ single_at : (h n v s d : ℕ) → n < 128 → IsPower h n v → d * 2 ^ s ≡ 2 
 single_at h n v s d low p e =
     sym (reversed-reversed v p.0) ∙ ap reversed p.1 ∙ sym (ap (multiple h) e ∙ multiple_single h n low)
 
--- a digit's product is the sum of those of its parts
+-- the product with a half byte is the XOR of the products with its bits
 sum_of : (h s a b : ℕ) → bit_xor (multiple h (a * 2 ^ s)) (multiple h (b * 2 ^ s)) ≡ multiple h (bit_xor a b * 2 ^ s)
 sum_of h s a b = sym (ap (multiple h) (xor_shl a b s) ∙ multiple-xor h (a * 2 ^ s) (b * 2 ^ s))
 
@@ -106,7 +106,7 @@ table_at h k v hk hv =
     ap (λ row. get_or row v 0) (get_or-map-range_with_len (table_row h) 0 32 k k [] hk (omega arith))
     ∙ get_or-map-range_with_len (λ d. multiple h (d * 2 ^ (124 - 4 * k))) 0 16 v v 0 hv (omega arith)
 
--- one more byte of x, whose lowest bit is bit s: two digits
+-- the two look-ups for one byte of x, whose lowest bit is bit s
 pub next_byte : (h x s : ℕ)
     → bit_xor (multiple h (x / 2 ^ (8 + s) * 2 ^ (8 + s))) (bit_xor (multiple h (x / 2 ^ s % 256 / 16 * 2 ^ (4 + s))) (multiple h (x / 2 ^ s % 256 % 16 * 2 ^ s)))
     ≡ multiple h (x / 2 ^ s * 2 ^ s)

@@ -1,4 +1,4 @@
--- Known answers, computed from the definitions.
+-- Test vectors, computed from the definitions by the checker.
 use Rattle.std.proofs.Common.{◌≡◌, [], ◌∷◌, refl}
 use Rattle.gcm_field.specs.Field.{times_low, folded, field_mul, reversed, prod}
 use Rattle.pme_terms.specs.Polynomials.{product_below, number_below}

@@ -1,4 +1,4 @@
--- What a hash key keeps beside its block.
+-- The invariant of a HashKey: its table and rows hold the multiples of its block.
 use Rattle.std.specs.Prelude.{◌≡◌, map}
 use Rattle.std.specs.Int.{w128, to_be_bytes}
 use Rattle.gcm_field.specs.Field.{polynomial}

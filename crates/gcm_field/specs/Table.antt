@@ -1,4 +1,4 @@
--- The products of a hash key that a table keeps, as numbers in the order of a block: first bit highest.
+-- The multiples in the table of a hash key, as numbers in the bit order of a block: the first bit is the highest.
 use Rattle.std.specs.Prelude.{ℕ, ◌-◌, ◌*◌, ◌^◌, List, map}
 use Rattle.std.specs.List.{range_with_len}
 use Rattle.gcm_field.specs.Field.{field_mul, reversed}
@@ -7,10 +7,10 @@ use Rattle.gcm_field.specs.Field.{field_mul, reversed}
 unfoldable pub multiple : ℕ → ℕ → ℕ
 multiple h x = reversed (field_mul (reversed x) h)
 
--- the products for each value of half byte k, from the first
+-- the products of h with each value of half byte k, counted from the first half byte of a block
 unfoldable pub table_row : ℕ → ℕ → List ℕ
 table_row h k = map (λ v. multiple h (v * 2 ^ (124 - 4 * k))) (range_with_len 0 16)
 
--- those for each half byte of a block
+-- the products of h with each value of each half byte of a block
 unfoldable pub table_of : ℕ → List (List ℕ)
 table_of h = map (table_row h) (range_with_len 0 32)

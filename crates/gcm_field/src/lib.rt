@@ -1,6 +1,6 @@
-// Products in GF(2^128) as GHASH takes them: the field and its blocks are those of SP 800-38D, 6.3.
-// A hash key keeps the products of its block with each value of each half byte, so that a product is thirty-two
-// look-ups, which are not in constant time. A plain product, bit by bit, stands beside it.
+//! Multiplication in GF(2^128) for GHASH (SP 800-38D, section 6.3). A hash key holds the products of its block with each
+//! value of each half byte, so that a multiplication is 32 table look-ups, which are not constant-time. A slow bit-by-bit
+//! multiplication is provided for comparison.
 #![tactic(auto)]
 
 mod bitwise;

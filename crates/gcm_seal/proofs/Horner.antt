@@ -1,4 +1,4 @@
--- GHASH of one more block.
+-- GHASH of a list with one more block at the end.
 use Rattle.std.proofs.Common.{◌≡◌, ℕ, zero, suc, ◌+◌, ◌^◌, ◌<◌, bit_xor, List, [], ◌∷◌, ◌++◌, length, refl, sym, ap, ◌∙◌, arith, length-append}
 use Rattle.std.specs.Int.Bits.{xor_assoc, xor_zero_r}
 use Rattle.gcm_field.specs.Field.{field_mul, polynomial}

@@ -1,4 +1,4 @@
--- Four blocks in a vector of 64 bytes, and the key stream that they make.
+-- Lemmas about four blocks in a vector of 64 bytes, and the keystream that they give.
 use Rattle.std.proofs.Common.{◌≡◌, ℕ, zero, suc, ◌+◌, ◌-◌, ◌*◌, ◌/◌, ◌%◌, ◌^◌, ◌<◌, ◌≤◌, bit_xor, List, [], ◌∷◌, ◌++◌, map, length, drop, get_or, refl, sym, ap, ◌∙◌, arith, add-zero, inl, inr}
 use Rattle.std.specs.Int.{w32, to_be_bytes}
 use Rattle.std.specs.List.{range_with_len}
@@ -11,14 +11,14 @@ use Rattle.aes_block.specs.FourBlocks.{lane_block}
 use Rattle.gcm_seal.specs.Gcm.{counter_block, keystream_byte}
 use Rattle.gcm_seal.proofs.Texts.{range_same}
 
--- a list of n items, written out
+-- a list of n items is the list of its items by index
 pub listed : (n : ℕ) (xs : List ℕ) → length xs ≡ n → xs ≡ map (λ k. get_or xs k 0) (range_with_len 0 n)
 listed n xs e = fill_by_all (λ k. get_or xs k 0) xs n 0 e (λ k h. refl)
 
 pub lane_at : (v : List ℕ) (b r : ℕ) → r < 16 → get_or (lane_block v b) r 0 ≡ get_or v (16 * b + r) 0
 lane_at v b r h = get_or-take 16 (drop (16 * b) v) r 0 h ∙ get_or-drop (16 * b) v r 0
 
--- byte j of the vector is in block j / 16
+-- byte j of a vector is in block j / 16
 pub byte_in_lane : (v : List ℕ) (j : ℕ) → get_or v j 0 ≡ get_or (lane_block v (j / 16)) (j % 16) 0
 byte_in_lane v j =
     let e : j ≡ 16 * (j / 16) + j % 16 = omega arith in
@@ -27,7 +27,7 @@ byte_in_lane v j =
 length-lane : (v : List ℕ) (b : ℕ) → length v ≡ 64 → b < 4 → length (lane_block v b) ≡ 16
 length-lane v b e h = length-take 16 (drop (16 * b) v) ∙ (let d = length-drop (16 * b) v in omega arith)
 
--- the block that is taken out of the vector
+-- the block that is extracted from a vector
 pub lane_taken : (v : List ℕ) (b : ℕ) → length v ≡ 64 → b < 4 → map (λ k. get_or (v ++ v) (16 * b + k) 0) (range_with_len 0 16) ≡ lane_block v b
 lane_taken v b e h =
     range_same (λ k. get_or (v ++ v) (16 * b + k) 0) (λ k. get_or (lane_block v b) k 0) 16 0
@@ -40,7 +40,7 @@ spread nonce c = map (λ k. get_or nonce k 0) (range_with_len 0 12) ++ map (λ k
 pub joined : (nonce c : List ℕ) → length nonce ≡ 12 → length c ≡ 4 → spread nonce c ≡ nonce ++ c
 joined nonce c en ec = λ i. sym (listed 12 nonce en) i ++ sym (listed 4 c ec) i
 
--- four counter blocks, one after the other
+-- four counter blocks, one after another
 pub counters : (nonce a b c d : List ℕ) (from i : ℕ) → length nonce ≡ 12
     → a ≡ to_be_bytes w32 from → b ≡ to_be_bytes w32 (from + 1) → c ≡ to_be_bytes w32 (from + 2) → d ≡ to_be_bytes w32 (from + 3) → i < 4
     → lane_block (spread nonce a ++ (spread nonce b ++ (spread nonce c ++ spread nonce d))) i ≡ counter_block nonce (from + i)
@@ -60,7 +60,7 @@ keystream_later key nonce c i j =
     keystream_part : List ℕ → List ℕ → ℕ → ℕ → ℕ
     keystream_part key nonce block place = get_or (aes key (counter_block nonce block)) place 0
 
--- four more blocks, or fewer at the end
+-- one step of the loop: four more blocks, or fewer at the end
 pub added : (key nonce : List ℕ) (from i count : ℕ) (old before after stream : List ℕ) → count ≤ 64
     → ((k : ℕ) → k < 64 * i → get_or before k 0 ≡ bit_xor (get_or old k 0) (keystream_byte key nonce from k))
     → ((k : ℕ) → 64 * i ≤ k → get_or before k 0 ≡ get_or old k 0)

@@ -1,4 +1,4 @@
--- Hashing a text piece by piece.
+-- Lemmas about hashing a text piece by piece.
 use Rattle.std.proofs.Common.{◌≡◌, ℕ, ◌+◌, ◌-◌, ◌*◌, ◌^◌, ◌<◌, ◌≤◌, bit_xor, List, [], ◌∷◌, ◌++◌, map, length, take, drop, get_or, replicate, refl, sym, ap, ◌∙◌, arith, append_assoc, length-append, inl, inr}
 use Rattle.std.specs.Int.{w128, from_be_bytes, to_be_bytes}
 use Rattle.std.specs.List.{range_with_len}
@@ -14,12 +14,12 @@ use Rattle.gcm_seal.specs.Hashing.{Hashed, IsHashOf}
 use Rattle.gcm_seal.proofs.Horner.{ghash_more}
 use Rattle.gcm_seal.proofs.Texts.{blocks-append, blocks-one}
 
--- two lists with the same items
+-- two lists with the same items are equal
 pub same_items : (xs ys : List ℕ) (n : ℕ) → length xs ≡ n → length ys ≡ n → ((k : ℕ) → k < n → get_or xs k 0 ≡ get_or ys k 0) → xs ≡ ys
 same_items xs ys n ex ey same =
     fill_by_all (λ k. get_or ys k 0) xs n 0 ex same ∙ sym (fill_by_all (λ k. get_or ys k 0) ys n 0 ey (λ k h. refl))
 
--- one more block
+-- GHASH of one more block
 pub block_absorbed : (h hash next : ℕ) (ys : List (List ℕ)) (block : List ℕ) → h < 2 ^ 128 → reversed hash ≡ ghash h ys
     → reversed next ≡ field_mul (reversed (bit_xor hash (from_be_bytes w128 block))) h → reversed next ≡ ghash h (ys ++ block ∷ [])
 block_absorbed h hash next ys block small before e =
@@ -47,7 +47,7 @@ last_part text rest block i within e some few whole same =
     ∙ blocks-append (take (16 * i) text) rest i before
     ∙ ap (λ b. blocks_of (take (16 * i) text) ++ b) (blocks-one rest block some few whole same)
 
--- bytes put after others
+-- bytes that are copied after others
 pub put_after : (old new bytes : List ℕ) (at : ℕ) → length old ≡ 16 → length new ≡ 16 → at + length bytes ≤ 16
     → ((k : ℕ) → k < at → get_or new k 0 ≡ get_or old k 0) → ((j : ℕ) → j < length bytes → get_or new (at + j) 0 ≡ get_or bytes j 0)
     → take (at + length bytes) new ≡ take at old ++ bytes
@@ -66,7 +66,7 @@ put_after old new bytes at eo en fits before inside =
           ∙ sym (ap (λ m. get_or (take at old ++ bytes) m 0) (sym f) ∙ get_or-append-add (take at old) bytes j 0)
     ])
 
--- bytes put into zeros
+-- bytes that are copied into a zero block
 pub padded : (new bytes : List ℕ) → length bytes ≤ 16 → ((j : ℕ) → j < length bytes → get_or new (0 + j) 0 ≡ get_or bytes j 0)
     → ((k : ℕ) → 0 + length bytes ≤ k → get_or new k 0 ≡ get_or (replicate 16 0) k 0) → (j : ℕ) → j < 16 → get_or new j 0 ≡ get_or bytes j 0
 padded new bytes few inside after j h = elim (cases_lt j (length bytes)) [
@@ -74,11 +74,11 @@ padded new bytes few inside after j h = elim (cases_lt j (length bytes)) [
   | inr high ↦ after j (omega arith) ∙ get_or-replicate 16 j 0 0 h ∙ sym (get_or_past bytes j 0 high)
 ]
 
--- what a block or a text adds to the hash
+-- the step of the hash for a list of blocks
 abbrev pub Absorbs : ℕ → ℕ → ℕ → List ℕ → Type 0
 Absorbs h before after text = (xs : List (List ℕ)) → reversed before ≡ ghash h xs → reversed after ≡ ghash h (xs ++ blocks_of text)
 
--- a piece that fills no block
+-- a piece that doesn't complete a block
 pub short_piece : (v : Hashed) (rest bytes key nonce aad text : List ℕ) → rest ≡ v.rest ++ bytes → IsHashOf v key nonce aad text
     → IsHashOf (record v { rest = rest; length = v.length + length bytes }) key nonce aad (text ++ bytes)
 short_piece v rest bytes key nonce aad text e r =
@@ -94,7 +94,7 @@ short_piece v rest bytes key nonce aad text e r =
       summed = r.summed;
     }
 
--- a piece that fills the block which was begun, and then some whole ones
+-- a piece that completes the partial block and may bring further whole blocks
 pub long_piece : (v : Hashed) (block head whole tail rest bytes key nonce aad text : List ℕ) (m middle sum : ℕ)
     → block ≡ v.rest ++ head → length block ≡ 16 → length whole ≡ 16 * m → rest ≡ tail → bytes ≡ head ++ (whole ++ tail)
     → Absorbs (polynomial v.key) v.sum middle block → Absorbs (polynomial v.key) middle sum whole → IsHashOf v key nonce aad text
@@ -128,7 +128,7 @@ long_piece v block head whole tail rest bytes key nonce aad text m middle sum e 
       summed = after ∙ ap (ghash h) order;
     }
 
--- the end: the block that was begun, the lengths, and the mask
+-- the final step: the partial block, the lengths, and the mask
 pub tagged : (v : Hashed) (lengths key nonce aad text tag : List ℕ) (middle sum : ℕ) → sum < 2 ^ 128
     → Absorbs (polynomial v.key) v.sum middle v.rest → Absorbs (polynomial v.key) middle sum lengths → lengths ≡ lengths_block v.aad_length v.length
     → tag ≡ map (λ i. bit_xor (get_or (to_be_bytes w128 sum) i 0) (get_or v.mask i 0)) (range_with_len 0 16)

@@ -1,4 +1,4 @@
--- Texts in blocks.
+-- Lemmas about texts in blocks, and about counter mode.
 use Rattle.std.proofs.Common.{◌≡◌, ℕ, zero, suc, ◌+◌, ◌*◌, ◌/◌, ◌%◌, ◌<◌, ◌≤◌, bit_xor, List, [], ◌∷◌, ◌++◌, map, length, get_or, refl, sym, ap, ◌∙◌, arith, length-append, append_assoc, add-one, add-zero}
 use Rattle.std.specs.List.{range_with_len}
 use Rattle.std.proofs.Math.ListN.{get_or-append}
@@ -16,7 +16,7 @@ pub length-tag_of : (key nonce aad text : List ℕ) → length (tag_of key nonce
 unfolding tag_of
 length-tag_of key nonce aad text = length-gctr key nonce 1 _
 
--- a map over a range, cut in two
+-- a map over a range that is cut in two
 pub range_cut : {X : Type 0} (f : ℕ → X) (n m : ℕ) → map f (range_with_len 0 (n + m)) ≡ map f (range_with_len 0 n) ++ map (λ i. f (n + i)) (range_with_len 0 m)
 range_cut f n zero = ap (λ k. map f (range_with_len 0 k)) (add-zero n) ∙ sym (append-nil (map f (range_with_len 0 n)))
 range_cut f n (suc m) =
@@ -29,7 +29,7 @@ range_cut f n (suc m) =
     ∙ append_assoc front back (f (n + m) ∷ [])
     ∙ ap (λ l. front ++ l) (sym (ap (λ k. map (λ i. f (n + i)) (range_with_len 0 k)) (sym (add-one m)) ∙ map-range_with_len_more (λ i. f (n + i)) 0 m m (omega arith)))
 
--- two functions that agree below n
+-- two functions that agree below n give the same list
 pub range_same : {X : Type 0} (f g : ℕ → X) (n : ℕ) (d : X) → ((i : ℕ) → i < n → f i ≡ g i) → map f (range_with_len 0 n) ≡ map g (range_with_len 0 n)
 range_same f g n d same =
     fill_by_all g (map f (range_with_len 0 n)) n d (length-map-range_with_len f 0 n)
@@ -46,7 +46,7 @@ back_block front back n i e =
     (λ j low. let place : 16 * (n + i) + j ≡ length front + (16 * i + j) = omega arith in
     ap (λ k. get_or (front ++ back) k 0) place ∙ get_or-append-add front back (16 * i + j) 0)
 
--- a text is cut between two blocks
+-- the blocks of a text that is cut between two blocks
 pub blocks-append : (front back : List ℕ) (n : ℕ) → length front ≡ 16 * n → blocks_of (front ++ back) ≡ blocks_of front ++ blocks_of back
 unfolding blocks_of
 blocks-append front back n e =
@@ -64,7 +64,7 @@ pub blocks-none : blocks_of [] ≡ []
 unfolding blocks_of
 blocks-none = refl
 
--- a text of one block at most, filled up with zeros
+-- a text of at most one block, padded with zeros
 pub blocks-one : (text block : List ℕ) → 0 < length text → length text ≤ 16 → length block ≡ 16
     → ((j : ℕ) → j < 16 → get_or block j 0 ≡ get_or text j 0) → blocks_of text ≡ block ∷ []
 unfolding blocks_of
@@ -85,7 +85,7 @@ unfolding gctr
 get_or-gctr key nonce c text k h =
     get_or-map-range_with_len (λ i. bit_xor (get_or text i 0) (keystream_byte key nonce c i)) 0 (length text) k k 0 h (omega arith)
 
--- counter mode undoes itself
+-- counter mode is its own inverse
 pub gctr_twice : (key nonce : List ℕ) (c : ℕ) (text : List ℕ) → gctr key nonce c (gctr key nonce c text) ≡ text
 gctr_twice key nonce c text =
     let once = gctr key nonce c text in

@@ -1,4 +1,4 @@
--- Test cases 1 and 2 of "The Galois/Counter Mode of Operation (GCM)", McGrew and Viega: key and nonce are zeros.
+-- Test cases 1 and 2 of "The Galois/Counter Mode of Operation (GCM)", McGrew and Viega. Key and nonce are all zeros.
 use Rattle.std.specs.Prelude.{ℕ, List, [], ◌∷◌, replicate}
 
 abbrev pub zero_key : List ℕ
@@ -7,12 +7,12 @@ zero_key = replicate 16 0
 abbrev pub zero_nonce : List ℕ
 zero_nonce = replicate 12 0
 
--- of the empty text
+-- test case 1: the tag of the empty text
 abbrev pub tag_1 : List ℕ
 tag_1 =
     0x58 ∷ 0xe2 ∷ 0xfc ∷ 0xce ∷ 0xfa ∷ 0x7e ∷ 0x30 ∷ 0x61 ∷ 0x36 ∷ 0x7f ∷ 0x1d ∷ 0x57 ∷ 0xa4 ∷ 0xe7 ∷ 0x45 ∷ 0x5a ∷ []
 
--- of a block of zeros
+-- test case 2: the ciphertext and the tag of a zero block
 abbrev pub ciphertext_2 : List ℕ
 ciphertext_2 =
     0x03 ∷ 0x88 ∷ 0xda ∷ 0xce ∷ 0x60 ∷ 0xb6 ∷ 0xa3 ∷ 0x92 ∷ 0xf3 ∷ 0x28 ∷ 0xc2 ∷ 0xb9 ∷ 0x71 ∷ 0xb2 ∷ 0xfe ∷ 0x78 ∷ []

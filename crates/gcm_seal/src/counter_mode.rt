@@ -1,4 +1,4 @@
-// Counter mode (SP 800-38D, 6.5), four blocks at a time.
+// Counter mode (SP 800-38D, section 6.5), four blocks at a time.
 ghost use Rattle.std.specs.Prelude.{◌≡◌, ℕ, ◌+◌, ◌-◌, ◌*◌, ◌/◌, ◌^◌, ◌<◌, ◌≤◌, length, take, bit_xor, slice_index, replicate};
 ghost use Rattle.aes_block.specs.Aes.{aes};
 ghost use Rattle.aes_block.specs.FourBlocks.{lane_block};
@@ -7,28 +7,29 @@ ghost use Rattle.gcm_seal.specs.Gcm.{counter_block, keystream_byte, gctr, hash_k
 use aes_block::AesKey;
 use std::simd::prelude::*;
 
-/// Counter mode over the buffer, in place, from the counter `first` (GCTR of SP 800-38D, section 6.5). The last counter
-/// that is used lies below 2^32.
+/// Encrypts or decrypts the buffer in place in counter mode, from counter `first` (GCTR of SP 800-38D, section 6.5). The
+/// last counter that is used must be below 2^32.
 pub fn gctr_in_place(key: &AesKey, nonce: &[u8; 12], first: u32, buffer: &mut [u8])
     requires { first + (length buffer.old + 15) / 16 ≤ 2 ^ 32 }
     ensures { buffer.new ≡ gctr key.now nonce.now first buffer.old }
 {
-    // a copy that the buffer can't alias
+    // A copy, so that the compiler knows that `buffer` doesn't alias it.
     let own_nonce = *nonce;
     let whole = buffer.len() / 64;
     for i in 0..whole {
         let stream = keystream(key, &own_nonce, first + 4 * i as u32);
-        add(buffer, 64 * i, &stream, 64);
+        xor_stream(buffer, 64 * i, &stream, 64);
     }
     let rest = buffer.len() - 64 * whole;
     if rest > 0 {
         let stream = keystream(key, &own_nonce, first + 4 * whole as u32);
-        add(buffer, 64 * whole, &stream, rest);
+        xor_stream(buffer, 64 * whole, &stream, rest);
     }
 }
 
-// The text, of four blocks at most, in counter mode from the counter `first`: the first bytes of the result.
-pub(crate) fn ciphered(key: &AesKey, nonce: &[u8; 12], first: u32, text: &[u8]) -> [u8; 64]
+// Encrypts a text of at most 64 bytes in counter mode from counter `first`. The result holds the ciphertext in its first
+// bytes; the others have no meaning.
+pub(crate) fn encrypt_short(key: &AesKey, nonce: &[u8; 12], first: u32, text: &[u8]) -> [u8; 64]
     requires { length text.now ≤ 64 }
     ensures { take (length text.now) result ≡ gctr key.now nonce.now first text.now }
 {
@@ -39,7 +40,8 @@ pub(crate) fn ciphered(key: &AesKey, nonce: &[u8; 12], first: u32, text: &[u8]) 
     stream
 }
 
-// The hash subkey, and the block that a tag's hash is added to: the ciphers of zeros and of counter block 1.
+// The hash subkey, and the mask that is XORed with the hash to give the tag: the encryption of a zero block and of counter
+// block 1.
 pub(crate) fn first_blocks(key: &AesKey, nonce: &[u8; 12]) -> ([u8; 16], [u8; 16])
     ensures subkey { result.0 ≡ hash_key key.now }
     ensures mask { result.1 ≡ aes key.now (counter_block nonce.now 1) }
@@ -57,7 +59,7 @@ pub(crate) fn first_blocks(key: &AesKey, nonce: &[u8; 12]) -> ([u8; 16], [u8; 16
     )
 }
 
-// Four ciphered counter blocks. A counter has four bytes, so after the last one comes 0.
+// The keystream of four blocks. A counter has four bytes and wraps around to 0.
 #[inline(always)]
 fn keystream(key: &AesKey, nonce: &[u8; 12], first: u32) -> [u8; 64]
     ensures { (j : ℕ) → j < 64 → slice_index result j ≡ keystream_byte key.now nonce.now first j }
@@ -65,6 +67,7 @@ fn keystream(key: &AesKey, nonce: &[u8; 12], first: u32) -> [u8; 64]
     key.encrypt_four(counter_blocks(nonce, first)).to_array()
 }
 
+// Four consecutive counter blocks.
 #[inline(always)]
 fn counter_blocks(nonce: &[u8; 12], first: u32) -> u8x64
     ensures { (b : ℕ) → b < 4 → lane_block result b ≡ counter_block nonce.now (first + b) }
@@ -81,9 +84,9 @@ fn counter_blocks(nonce: &[u8; 12], first: u32) -> u8x64
     ])
 }
 
-// Adds the first bytes of the stream to those of the buffer from `at` on.
+// XORs the first `count` bytes of the stream into the buffer from index `at` on.
 #[inline(always)]
-fn add(buffer: &mut [u8], at: usize, stream: &[u8; 64], count: usize)
+fn xor_stream(buffer: &mut [u8], at: usize, stream: &[u8; 64], count: usize)
     requires in_stream { count ≤ 64 }
     requires in_buffer { at + count ≤ length buffer.old }
     ensures before { (k : ℕ) → k < at → slice_index buffer.new k ≡ slice_index buffer.old k }

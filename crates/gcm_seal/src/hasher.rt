@@ -1,3 +1,4 @@
+// GHASH and the tag of a ciphertext, computed piece by piece.
 ghost use Rattle.std.specs.Prelude.{◌≡◌, ℕ, ◌+◌, ◌*◌, ◌^◌, ◌<◌, ◌≤◌, List, [], ◌∷◌, ◌++◌, length, take, slice_index, map, bit_xor};
 ghost use Rattle.std.specs.Int.{w128, to_be_bytes};
 ghost use Rattle.std.specs.List.{range_with_len};
@@ -6,19 +7,20 @@ ghost use Rattle.gcm_seal.specs.Gcm.{blocks_of, ghash, hash_key, tag_of, lengths
 ghost use Rattle.gcm_seal.specs.Hashing.{IsHashOf};
 
 use crate::counter_mode::first_blocks;
+use crate::sealed::TEXT_LIMIT;
 use aes_block::AesKey;
 use gcm_field::HashKey;
 use std::marker::Model;
 
-/// A ciphertext's tag in the making: the ciphertext comes in pieces, cut anywhere.
+/// Computes the tag of a ciphertext that is given in pieces of any lengths.
 #[derive(Drop)]
 pub struct Hasher {
     key: HashKey,
     mask: [u8; 16],
     sum: u128,
-    // The bytes after the last whole block, `filled` of them.
+    // The bytes after the last whole block; there are `rest_length` of them.
     rest: [u8; 16],
-    filled: usize,
+    rest_length: usize,
     aad_length: usize,
     length: usize,
 }
@@ -26,16 +28,17 @@ pub struct Hasher {
 impl Model for Hasher {
     ghost use Rattle.std.specs.Prelude.{◌<◌, ◌≤◌, take};
     ghost use Rattle.gcm_seal.specs.Hashing.{Hashed};
+    ghost use Rattle.gcm_seal.specs.declared.sealed.TheConstants.{TEXT_LIMIT};
 
     ghost Value = { Hashed };
 
-    ghost view = { λ h. record { key = h.key; mask = h.mask; sum = h.sum; rest = take h.filled h.rest; aad_length = h.aad_length; length = h.length } };
+    ghost view = { λ h. record { key = h.key; mask = h.mask; sum = h.sum; rest = take h.rest_length h.rest; aad_length = h.aad_length; length = h.length } };
 
-    ghost invariant = { λ h. (h.filled < 16) × (h.aad_length ≤ 4096) × (h.length ≤ 268435456) };
+    ghost invariant = { λ h. (h.rest_length < 16) × (h.aad_length ≤ 4096) × (h.length ≤ TEXT_LIMIT) };
 }
 
 impl Hasher {
-    /// Begins with the associated data, of 4,096 bytes at most. No ciphertext has come yet.
+    /// Starts with associated data of at most 4,096 bytes and no ciphertext.
     pub fn new(key: &AesKey, nonce: &[u8; 12], aad: &[u8]) -> Hasher
         requires { length aad.now ≤ 4096 }
         ensures hash { IsHashOf result key.now nonce.now aad.now [] }
@@ -49,53 +52,56 @@ impl Hasher {
             mask,
             sum,
             rest: [0; 16],
-            filled: 0,
+            rest_length: 0,
             aad_length: aad.len(),
             length: 0,
         }
     }
 
-    /// Takes the next piece of the ciphertext, which has 268,435,456 bytes at most with all its pieces.
+    /// Hashes the next piece of the ciphertext. All pieces together may have at most 268,435,456 bytes.
     pub fn update(&mut self, ciphertext: &[u8])
-        requires { self.old.length + length ciphertext.now ≤ 268435456 }
-        ensures hash { (key nonce aad text : List ℕ) → IsHashOf self.old key nonce aad text → IsHashOf self.new key nonce aad (text ++ ciphertext.now) }
+        requires { self.old.length + length ciphertext.now ≤ TEXT_LIMIT }
+        ensures hash { (key nonce aad text : List ℕ) → IsHashOf self.old key nonce aad text →
+            IsHashOf self.new key nonce aad (text ++ ciphertext.now) }
         ensures length { self.new.length ≡ self.old.length + length ciphertext.now }
     {
         self.length += ciphertext.len();
-        let room = 16 - self.filled;
-        if ciphertext.len() < room {
-            put(&mut self.rest, self.filled, ciphertext);
-            self.filled += ciphertext.len();
+        let missing = 16 - self.rest_length;
+        if ciphertext.len() < missing {
+            put(&mut self.rest, self.rest_length, ciphertext);
+            self.rest_length += ciphertext.len();
         } else {
-            let (head, others) = ciphertext.split_at(room);
-            put(&mut self.rest, self.filled, head);
+            let (head, others) = ciphertext.split_at(missing);
+            put(&mut self.rest, self.rest_length, head);
             let (whole, tail) = others.split_at(others.len() / 16 * 16);
             let with_head = absorb(&self.key, self.sum, &self.rest);
             self.sum = absorb(&self.key, with_head, whole);
             put(&mut self.rest, 0, tail);
-            self.filled = tail.len();
+            self.rest_length = tail.len();
         }
     }
 
-    /// The tag of the pieces (SP 800-38D, 7.1).
+    /// The tag of the ciphertext (SP 800-38D, section 7.1).
     pub fn finish(self) -> [u8; 16]
-        ensures { (key nonce aad text : List ℕ) → IsHashOf self key nonce aad text → result ≡ tag_of key nonce aad text }
+        ensures { (key nonce aad text : List ℕ) → IsHashOf self key nonce aad text →
+            result ≡ tag_of key nonce aad text }
     {
-        let with_rest = absorb(&self.key, self.sum, &self.rest[..self.filled]);
-        let lengths = spelled_lengths(self.aad_length, self.length);
-        masked(absorb(&self.key, with_rest, &lengths), &self.mask)
+        let with_rest = absorb(&self.key, self.sum, &self.rest[..self.rest_length]);
+        let lengths = encode_lengths(self.aad_length, self.length);
+        tag_from_hash(absorb(&self.key, with_rest, &lengths), &self.mask)
     }
 
-    /// The hash subkey, with its table.
+    /// The hash subkey with its table.
     pub fn hash_key(&self) -> &HashKey
         ensures kept { result.now ≡ self.now.key }
-        ensures subkey { (key nonce aad text : List ℕ) → IsHashOf self.now key nonce aad text → result.now ≡ hash_key key }
+        ensures subkey { (key nonce aad text : List ℕ) → IsHashOf self.now key nonce aad text →
+            result.now ≡ hash_key key }
     {
         &self.key
     }
 }
 
-// The hash (GHASH) of the blocks so far and of the text's, the last of which is filled up with zeros.
+// Continues GHASH from `sum` with the blocks of the text, the last of which is padded with zeros.
 fn absorb(key: &HashKey, sum: u128, text: &[u8]) -> u128
     ensures { (xs : List (List ℕ)) → reversed sum ≡ ghash (polynomial key.now) xs
         → reversed result ≡ ghash (polynomial key.now) (xs ++ blocks_of text.now) }
@@ -114,24 +120,26 @@ fn absorb(key: &HashKey, sum: u128, text: &[u8]) -> u128
     key.mul_number(hash ^ u128::from_be_bytes(block))
 }
 
-// Writes the bytes into the block, from `at` on.
+// Copies the bytes into the block from index `at` on.
 #[inline(always)]
 fn put(block: &mut [u8; 16], at: usize, bytes: &[u8])
     requires { at + length bytes.now ≤ 16 }
     ensures whole { length block.new ≡ 16 }
     ensures before { (k : ℕ) → k < at → slice_index block.new k ≡ slice_index block.old k }
-    ensures inside { (j : ℕ) → j < length bytes.now → slice_index block.new (at + j) ≡ slice_index bytes.now j }
-    ensures after { (k : ℕ) → at + length bytes.now ≤ k → slice_index block.new k ≡ slice_index block.old k }
+    ensures inside { (j : ℕ) → j < length bytes.now → slice_index block.new (at + j) ≡
+        slice_index bytes.now j }
+    ensures after { (k : ℕ) → at + length bytes.now ≤ k → slice_index block.new k ≡
+        slice_index block.old k }
 {
     for j in 0..bytes.len() {
         block[at + j] = bytes[j];
     }
 }
 
-// The last block that is hashed: both lengths in bits.
-fn spelled_lengths(aad_length: usize, length: usize) -> [u8; 16]
+// The last block that is hashed: the lengths of associated data and ciphertext in bits.
+fn encode_lengths(aad_length: usize, length: usize) -> [u8; 16]
     requires short_aad { aad_length ≤ 4096 }
-    requires short_text { length ≤ 268435456 }
+    requires short_text { length ≤ TEXT_LIMIT }
     ensures { result ≡ lengths_block aad_length length }
 {
     let [a0, a1, a2, a3, a4, a5, a6, a7] = (8 * aad_length as u64).to_be_bytes();
@@ -141,9 +149,10 @@ fn spelled_lengths(aad_length: usize, length: usize) -> [u8; 16]
     ]
 }
 
-// The hash as a block, added to the mask.
-fn masked(hash: u128, mask: &[u8; 16]) -> [u8; 16]
-    ensures { result ≡ map (λ i. bit_xor (slice_index (to_be_bytes w128 hash) i) (slice_index mask.now i)) (range_with_len 0 16) }
+// The tag: the hash as a block, XORed with the mask.
+fn tag_from_hash(hash: u128, mask: &[u8; 16]) -> [u8; 16]
+    ensures { result ≡ map (λ i. bit_xor (slice_index (to_be_bytes w128 hash) i)
+        (slice_index mask.now i)) (range_with_len 0 16) }
 {
     let mut tag = hash.to_be_bytes();
     for i in 0..16 {

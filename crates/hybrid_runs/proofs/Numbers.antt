@@ -1,4 +1,4 @@
--- Numbers that bytes spell, and bits held in front of them.
+-- The numbers in bytes, and bits held in front of bytes.
 use Rattle.std.proofs.Common.{◌≡◌, ℕ, zero, suc, ◌+◌, ◌-◌, ◌*◌, ◌/◌, ◌%◌, ◌^◌, ◌<◌, ◌≤◌, List, [], ◌∷◌, take, drop, length, bit_and, sym, ap, ◌∙◌, arith}
 use Rattle.std.proofs.lemmas.Nat.{pow-add, pow_pos, shl_whole, shr_below, shr_high, mod_low, and_mask, one_shl, mul-add-lt}
 use Rattle.hybrid_runs.specs.Hybrid.{le_number}
@@ -14,7 +14,7 @@ le_number-split (suc s) (x ∷ xs) h =
     let p : 2 ^ (8 * suc s) ≡ 2 ^ (8 * s) * 256 = ap (λ k. 2 ^ k) e ∙ pow-add 2 (8 * s) 8 in
     onto_byte x (le_number xs) (le_number (take s xs)) (2 ^ (8 * s)) (2 ^ (8 * suc s)) (le_number (drop s xs)) (le_number-split s xs (omega arith)) p
 
--- bits held, with some more put on top of them
+-- Held bits with more bits put above them.
 pub shifted : (v s c : ℕ) → v < 2 ^ (8 * s) → 8 * s + c ≤ 64 → v * 2 ^ c % 2 ^ 64 ≡ v * 2 ^ c
 shifted v s c h fits = shl_whole v (8 * s) c 64 h fits
 
@@ -29,7 +29,7 @@ three h v m p q = omega arith
 pub number_in-more : (h v s c m : ℕ) → h + v * 2 ^ c + 2 ^ (c + 8 * s) * m ≡ h + 2 ^ c * (v + 2 ^ (8 * s) * m)
 number_in-more h v s c m = rw (pow-add 2 c (8 * s)) (three h v m (2 ^ c) (2 ^ (8 * s)))
 
--- bits held, with the lowest of them taken off
+-- Held bits without their lowest ones.
 split_held : (c w : ℕ) → w ≤ c → 2 ^ c ≡ 2 ^ (c - w) * 2 ^ w
 split_held c w h = let e : c ≡ c - w + w = omega arith in ap (λ k. 2 ^ k) e ∙ pow-add 2 (c - w) w
 

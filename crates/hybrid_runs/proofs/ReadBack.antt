@@ -17,7 +17,7 @@ pub varint_text-more : (t n : ℕ) → 0 < t → 128 ≤ n → varint_text t n �
 varint_text-more zero n h l = absurd (omega arith)
 varint_text-more (suc t) n h l = let e : suc t - 1 ≡ t = omega arith in rw (e, lt_false n 128 l)
 
--- ---- the header
+-- The header of a run.
 some_left : (n x : ℕ) → 128 ≤ x → x < 2 ^ (7 * suc n) → 0 < n
 some_left zero x h l = absurd (omega arith)
 some_left (suc n) x h l = omega arith
@@ -38,7 +38,7 @@ unfolding header header_text
 header-back count tail h =
     rw (varint-back 5 (2 * groups_of count + 1) tail (omega arith) (omega arith), lt_true (2 * groups_of count + 1) (2 ^ 32) (omega arith))
 
--- ---- the bits
+-- The bits of a run.
 pow_more : (k : ℕ) → 2 ^ suc k ≡ 2 ^ k * 2
 pow_more k = ap (λ n. 2 ^ n) (sym (add-one k)) ∙ pow-add 2 k 1
 
@@ -133,7 +133,7 @@ bits_read_back bits rest short small =
     ap header (append_assoc (header_text n) (bits_text bits) rest) ∙ header-back n body short in
     first_run 1 n (run_text bits ++ rest) body (2 * g + 1) found (ap length values) ∙ values
 
--- ---- the writer's loop
+-- The loop of the writer.
 pub grouped_turn : (vs more rest front behind : List ℕ) (m k byte : ℕ) → m ≡ suc k → more ≡ vs ++ byte ∷ [] → byte ≡ bits_number front
     → front ≡ take (min (length rest) 8) rest → behind ≡ drop (min (length rest) 8) rest → vs ++ grouped m rest ≡ more ++ grouped k behind
 grouped_turn vs more rest front behind m k byte e pushed number first after =
@@ -142,13 +142,13 @@ grouped_turn vs more rest front behind m k byte e pushed number first after =
     let high : behind ≡ drop 8 rest = after ∙ ap (λ n. drop n rest) turned ∙ drop_min 8 rest in
     rw (e, pushed, low, high) (sym (append_assoc vs (bits_number (take 8 rest) ∷ []) (grouped k (drop 8 rest))))
 
--- what was in front stays there when more is put behind it
+-- Appending more keeps the bytes in front.
 pub kept_more : (old vs more pushed : List ℕ) → take (length old) vs ≡ old → more ≡ vs ++ pushed → take (length old) more ≡ old
 kept_more old vs more pushed kept e =
     let fits : length old ≤ length vs = omega (arith, ap length kept, length-take (length old) vs) in
     ap (take (length old)) e ∙ take-append-le (length old) vs pushed fits ∙ kept
 
--- ---- how long a run is
+-- The size of a run.
 length-varint_text : (n number : ℕ) → length (varint_text n number) ≤ n
 length-varint_text zero number = omega arith
 length-varint_text (suc n) number = elim (cases_lt number 128) [

@@ -1,4 +1,4 @@
--- The first values of runs.
+-- The first values of some runs.
 use Rattle.std.proofs.Common.{◌≡◌, ◌≢◌, ℕ, zero, suc, ◌+◌, ◌-◌, ◌*◌, ◌/◌, ◌%◌, ◌^◌, ◌<◌, ◌≤◌, nat_le, true, false, Bool, min, List, [], ◌∷◌, ◌++◌, take, drop, replicate, length, None, Some, if◌then◌else◌, refl, sym, ap, ◌∙◌, arith, append_assoc, length-take, length-append, length-drop}
 use Rattle.std.proofs.lemmas.List.{append-nil, take_all}
 use Rattle.std.proofs.lemmas.Nat.{pow-add}
@@ -14,7 +14,7 @@ le_false m n h = grind arith
 pub varint_room : (t : ℕ) → 0 < t → 2 ^ (7 * t) ≡ 2 ^ (7 * (t - 1)) * 128
 varint_room t h = let e : 7 * t ≡ 7 * (t - 1) + 7 = omega arith in ap (λ k. 2 ^ k) e ∙ pow-add 2 (7 * (t - 1)) 7
 
--- one value more, where its bits are there
+-- One more value, if its bits are there.
 pub packed_more : (w m k number bits : ℕ) → m ≡ suc k → w ≤ bits → packed w m number bits ≡ number % 2 ^ w ∷ packed w k (number / 2 ^ w) (bits - w)
 packed_more w m k number bits e h = rw (e, le_true w bits h)
 
@@ -57,7 +57,7 @@ take-choice m false xs ys e = e
 pub take-copies : (m w n : ℕ) (bytes : List ℕ) → take m (copies w n bytes) ≡ copies w (min m n) bytes
 take-copies m w n bytes = take-choice m _ _ _ (take-replicate_min m n (le_number (take (value_size w) bytes)))
 
--- the first values of two lists, one behind the other
+-- The first items of two lists joined.
 pub take-append : (n : ℕ) (xs ys : List ℕ) → take n (xs ++ ys) ≡ take n xs ++ take (n - length xs) ys
 take-append zero xs ys = let none : 0 - length xs ≡ 0 = omega arith in rw none
 take-append (suc n) [] ys = let all : suc n - 0 ≡ suc n = omega arith in rw all
@@ -68,7 +68,8 @@ take-append (suc n) (x ∷ xs) ys =
 left_over : (count before all taken : ℕ) → before ≤ count → taken ≡ min (count - before) all → count - before - all ≡ count - (before + taken)
 left_over count before all taken h e = omega arith
 
--- what a loop over runs keeps: the answer is the values so far, and what is still asked for of the runs that follow
+-- The invariant of the loop over runs: the answer is the values so far, followed by the first values of the remaining
+-- runs.
 pub record Reads (count w : ℕ) (answer vs rest : List ℕ) : Type 0 where
   pub within : length vs ≤ count
   pub turns : ℕ
@@ -116,7 +117,7 @@ reads_enough count w answer vs rest so enough =
     let nothing : count - length vs ≡ 0 = omega arith in
     sym (so.same ∙ rw nothing (append-nil vs))
 
--- the first values of a run, by the kind that its header tells
+-- The first values of a run, by the type that its header gives.
 pub even_run : (w h m : ℕ) (bytes : List ℕ) → h % 2 ≡ 0 → take m (run_values w h bytes) ≡ copies w (min m (h / 2)) bytes
 unfolding run_values
 even_run w h m bytes e = rw e (take-copies m w (h / 2) bytes)

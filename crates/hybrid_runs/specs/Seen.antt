@@ -1,7 +1,7 @@
--- Pairs with a reference, as lists see them.
+-- Pairs with a borrowed slice, as pairs with a list.
 use Rattle.std.specs.Prelude.{ℕ, List}
 use Rattle.std.specs.Borrow.{Bor}
 
--- a number and the bytes that a reference lends
+-- A number and a borrowed slice.
 abbrev pub seen_pair : ℕ × Bor (List ℕ) → ℕ × List ℕ
 seen_pair pair = (pair.0, pair.1.now)

@@ -1,8 +1,9 @@
+// A stream of bits over bytes.
 ghost use Rattle.std.specs.Prelude.{◌≡◌, ◌<◌, ◌≤◌, ◌+◌, ◌-◌, ◌*◌, ◌/◌, ◌%◌, ◌^◌, [], length, IfSome, IfNone};
 ghost use Rattle.hybrid_runs.specs.Hybrid as hybrid;
 ghost use Rattle.hybrid_runs.specs.BitsInside.{number_in, bits_in};
 
-/// Bits still to come, from the least of each byte on: those held in a number, and then those of the rest.
+/// A stream of bits, from the lowest bit of each byte on: first the `count` bits in `held`, then those of `rest`.
 #[derive(Drop)]
 pub struct Bits<'a> {
     held: u64,
@@ -13,9 +14,10 @@ pub struct Bits<'a> {
 }
 
 impl<'a> Bits<'a> {
-    /// All bits of these bytes.
+    /// The stream of all bits of `bytes`.
     pub fn new(bytes: &'a [u8]) -> Bits<'a>
-        ensures number { number_in result.held result.count result.rest.now ≡ hybrid.le_number bytes.now }
+        ensures number { number_in result.held result.count result.rest.now ≡
+            hybrid.le_number bytes.now }
         ensures bits { bits_in result.count result.rest.now ≡ 8 * length bytes.now }
     {
         Bits {
@@ -25,17 +27,21 @@ impl<'a> Bits<'a> {
         }
     }
 
-    /// The next value of this width, and the bits behind it; None where fewer bits are left.
+    /// The next value of `width` bits (at most 32) and the bits after it, or None if fewer bits are left.
     pub fn next(self, width: u32) -> Option<(u32, Bits<'a>)>
         requires { width ≤ 32 }
-        ensures there { IfSome result (λ next. width ≤ bits_in self.entry.count self.entry.rest.now) }
-        ensures value { IfSome result (λ next. next.0 ≡ number_in self.entry.held self.entry.count self.entry.rest.now % 2 ^ width) }
-        ensures number { IfSome result (λ next. number_in next.1.held next.1.count next.1.rest.now ≡ number_in self.entry.held self.entry.count self.entry.rest.now / 2 ^ width) }
-        ensures bits { IfSome result (λ next. bits_in next.1.count next.1.rest.now ≡ bits_in self.entry.count self.entry.rest.now - width) }
+        ensures there { IfSome result
+            (λ next. width ≤ bits_in self.entry.count self.entry.rest.now) }
+        ensures value { IfSome result (λ next. next.0 ≡
+            number_in self.entry.held self.entry.count self.entry.rest.now % 2 ^ width) }
+        ensures number { IfSome result (λ next. number_in next.1.held next.1.count next.1.rest.now ≡
+            number_in self.entry.held self.entry.count self.entry.rest.now / 2 ^ width) }
+        ensures bits { IfSome result (λ next. bits_in next.1.count next.1.rest.now ≡
+            bits_in self.entry.count self.entry.rest.now - width) }
         ensures none { IfNone result (bits_in self.entry.count self.entry.rest.now < width) }
     {
         let bits = if self.count < width {
-            self.refilled()
+            self.refill()
         } else {
             self
         };
@@ -51,11 +57,13 @@ impl<'a> Bits<'a> {
         Some((value, next))
     }
 
-    /// The same bits, of which at least 32 are held, or all.
-    fn refilled(self) -> Bits<'a>
+    /// The same stream with at least 32 bits in `held`, or with all that are left.
+    fn refill(self) -> Bits<'a>
         requires { self.count < 32 }
-        ensures number { number_in result.held result.count result.rest.now ≡ number_in self.entry.held self.entry.count self.entry.rest.now }
-        ensures bits { bits_in result.count result.rest.now ≡ bits_in self.entry.count self.entry.rest.now }
+        ensures number { number_in result.held result.count result.rest.now ≡
+            number_in self.entry.held self.entry.count self.entry.rest.now }
+        ensures bits { bits_in result.count result.rest.now ≡
+            bits_in self.entry.count self.entry.rest.now }
         ensures enough { result.count < 32 → result.rest.now ≡ [] }
     {
         let size = self.rest.len().min(4);
@@ -68,7 +76,7 @@ impl<'a> Bits<'a> {
     }
 }
 
-/// The number that up to four bytes spell, the least of them first.
+/// The little-endian number in up to four bytes.
 pub fn le_number(bytes: &[u8]) -> u32
     requires { length bytes.now ≤ 4 }
     ensures number { result ≡ hybrid.le_number bytes.now }

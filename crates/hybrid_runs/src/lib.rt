@@ -1,5 +1,5 @@
-// Parquet's hybrid of runs of copies and of bit-packed groups (parquet-format, Encodings.md): the first values that
-// bytes hold, at any width from 0 to 32 bits, and bits written as one bit-packed run, which is read back.
+//! Parquet's RLE / bit-packing hybrid (parquet-format, Encodings.md): reads the first values of an encoded slice at
+//! any width from 0 to 32 bits, and writes bits as one bit-packed run, which is read back.
 #![tactic(auto)]
 
 ghost use Rattle.hybrid_runs.specs.Written.{BitsReadBack};
@@ -13,7 +13,7 @@ pub use bits::le_number;
 pub use reading::first_values;
 pub use writing::{run_length, write_bits, write_run};
 
-/// The law that bits written as a run are read back, whatever follows them.
+/// The law that bits written as a run are read back, whatever bytes follow.
 pub fn bits_are_read_back()
     ensures { BitsReadBack }
 {}

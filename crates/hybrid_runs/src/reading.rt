@@ -1,3 +1,4 @@
+// Reads the values of runs.
 ghost use Rattle.std.specs.Prelude.{◌≡◌, ◌≤◌, ◌<◌, ◌+◌, ◌-◌, ◌*◌, ◌^◌, ◌/◌, ◌==◌, ◌++◌, if◌then◌else◌, take, drop, length, replicate, min, vec_len, IfOk, OnOk};
 ghost use Rattle.hybrid_runs.specs.Hybrid as hybrid;
 
@@ -6,8 +7,8 @@ use crate::varint::header_of;
 use pme_base::OutOfMemory;
 use std::alloc::Global;
 
-/// The first `count` values of this width in bits, as far as they are there: where fewer come back, their number is
-/// that of the first value that isn't there. What follows the last value asked for is unread.
+/// Reads the first `count` values, each of `width` bits, from `bytes`. If the bytes end or a run header is invalid
+/// before that, the values up to there are the result. Bytes after the last value read are ignored.
 pub fn first_values(
     alloc: Global,
     width: u32,
@@ -24,12 +25,12 @@ pub fn first_values(
             break;
         };
         push_run(&mut values, count, width, header, run)?;
-        rest = behind(run, run_size(width, header));
+        rest = bytes_after(run, run_size(width, header));
     }
     Ok(values)
 }
 
-/// Adds the values of a run, so many that there are `count` at most.
+/// Appends the values of the run with the given header, until `values` holds `count`.
 #[tactic(auto, unfolding(crate::specs::Hybrid::run_values))]
 fn push_run(
     values: &mut Vec<u32>,
@@ -40,17 +41,18 @@ fn push_run(
 ) -> Result<(), OutOfMemory>
     requires width { width ≤ 32 }
     requires room { vec_len values.old ≤ count }
-    ensures { OnOk result (values.new.items ≡ values.old.items ++ take (count - vec_len values.old) (hybrid.run_values width header run.now)) }
+    ensures { OnOk result (values.new.items ≡ values.old.items ++
+        take (count - vec_len values.old) (hybrid.run_values width header run.now)) }
 {
-    let room = count - values.len();
+    let left = count - values.len();
     if header % 2 == 0 {
-        push_copies(values, room.min((header / 2) as usize), width, run)
+        push_copies(values, left.min((header / 2) as usize), width, run)
     } else {
-        push_packed(values, room.min(8 * (header / 2) as usize), width, run)
+        push_packed(values, left.min(8 * (header / 2) as usize), width, run)
     }
 }
 
-/// Adds so many copies of the value at the front of `run`.
+/// Appends `count` copies of the value at the start of `run`, or nothing if `run` is too short for a value.
 fn push_copies(
     values: &mut Vec<u32>,
     count: usize,
@@ -59,7 +61,8 @@ fn push_copies(
 ) -> Result<(), OutOfMemory>
     requires width { width ≤ 32 }
     requires fits { vec_len values.old + count < 2 ^ 64 }
-    ensures { OnOk result (values.new.items ≡ values.old.items ++ hybrid.copies width count run.now) }
+    ensures { OnOk result (values.new.items ≡
+        values.old.items ++ hybrid.copies width count run.now) }
 {
     let size = value_size(width);
     if run.len() < size {
@@ -71,7 +74,7 @@ fn push_copies(
     Ok(())
 }
 
-/// Adds so many values that are packed into `run`, as far as they are there.
+/// Appends `count` bit-packed values, or as many as `run` holds.
 fn push_packed(
     values: &mut Vec<u32>,
     count: usize,
@@ -79,7 +82,8 @@ fn push_packed(
     run: &[u8],
 ) -> Result<(), OutOfMemory>
     requires width { width ≤ 32 }
-    ensures { OnOk result (values.new.items ≡ values.old.items ++ hybrid.packed width count (hybrid.le_number run.now) (8 * length run.now)) }
+    ensures { OnOk result (values.new.items ≡ values.old.items ++
+        hybrid.packed width count (hybrid.le_number run.now) (8 * length run.now)) }
 {
     let mut bits = Bits::new(run);
     for _ in 0..count {
@@ -92,7 +96,7 @@ fn push_packed(
     Ok(())
 }
 
-/// How many bytes a run has behind its header.
+/// The size in bytes of a run without its header.
 #[tactic(auto, unfolding(crate::specs::Hybrid::run_size))]
 fn run_size(width: u32, header: u32) -> usize
     requires { width ≤ 32 }
@@ -105,7 +109,7 @@ fn run_size(width: u32, header: u32) -> usize
     }
 }
 
-/// How many bytes hold one value of a run of copies.
+/// The size in bytes of the value of an RLE run.
 fn value_size(width: u32) -> usize
     requires { width ≤ 32 }
     ensures size { result ≡ hybrid.value_size width }
@@ -114,8 +118,8 @@ fn value_size(width: u32) -> usize
     width.div_ceil(8) as usize
 }
 
-/// What is left of `bytes` behind so many of them.
-fn behind(bytes: &[u8], size: usize) -> &[u8]
+/// The bytes after the first `size`, or none if there are fewer.
+fn bytes_after(bytes: &[u8], size: usize) -> &[u8]
     ensures { result.now ≡ drop size bytes.now }
 {
     &bytes[size.min(bytes.len())..]

@@ -1,8 +1,9 @@
+// Reads the headers of runs.
 ghost use Rattle.std.specs.Prelude.{◌≡◌, ◌<◌, ◌≤◌, ◌^◌, ◌*◌, option_map, length, IfSome};
 ghost use Rattle.hybrid_runs.specs.Hybrid as hybrid;
 ghost use Rattle.hybrid_runs.specs.Seen.{seen_pair};
 
-/// The header of a run: a varint of at most five bytes that fits 32 bits, and the bytes behind it.
+/// Reads the header of a run, a varint of at most five bytes that fits 32 bits. The result has the bytes after it.
 #[tactic(auto, unfolding(crate::specs::Hybrid::header))]
 pub fn header_of(bytes: &[u8]) -> Option<(u32, &[u8])>
     ensures header { option_map seen_pair result ≡ hybrid.header bytes.now }

@@ -1,10 +1,11 @@
+// Writes bits as one bit-packed run.
 ghost use Rattle.std.specs.Prelude.{◌≡◌, ℕ, List, ◌+◌, ◌*◌, ◌^◌, ◌≤◌, ◌<◌, ◌++◌, length, take, OnOk, OnErr};
 ghost use Rattle.hybrid_runs.specs.Written as written;
 
 use pme_base::OutOfMemory;
 
-/// Adds one bit-packed run of width 1 to the end of `into`: the lowest bit of each item, in as many groups of eight
-/// as they take, with the bits that are left over 0. A refusal leaves what was there in front.
+/// Appends one bit-packed run of width 1: the lowest bit of each item of `bits`, padded with 0 bits to whole bytes.
+/// On an error `into` keeps what it held before, perhaps followed by a part of the run.
 #[tactic(auto, unfolding(crate::specs::Written::header_text))]
 pub fn write_run(bits: &[u8], into: &mut Vec<u8>) -> Result<(), OutOfMemory>
     requires { length bits.now ≤ 16777216 }
@@ -16,7 +17,7 @@ pub fn write_run(bits: &[u8], into: &mut Vec<u8>) -> Result<(), OutOfMemory>
     write_bits(bits, into)
 }
 
-/// How many bytes a run of so many bits has.
+/// The size in bytes of a run of `count` bits with its header.
 #[tactic(auto, unfolding(crate::specs::Written::header_text))]
 pub fn run_length(count: usize) -> u32
     requires { count ≤ 16777216 }
@@ -26,8 +27,8 @@ pub fn run_length(count: usize) -> u32
     varint_length(5, 2 * groups + 1) + groups
 }
 
-/// Adds bits to the end of `into`, eight in a byte from the least on, and the bits that are left over 0. Of each
-/// item its lowest bit counts. A refusal leaves what was there in front.
+/// Appends the lowest bit of each item of `bits`, eight to a byte from the lowest bit on, padded with 0 bits. On an
+/// error `into` keeps what it held before, perhaps followed by a part of the bytes.
 pub fn write_bits(bits: &[u8], into: &mut Vec<u8>) -> Result<(), OutOfMemory>
     ensures appended { OnOk result (into.new.items ≡ into.old.items ++ written.bits_text bits.now) }
     ensures kept { OnErr result (take (length into.old.items) into.new.items ≡ into.old.items) }
@@ -48,7 +49,7 @@ fn groups_of(count: usize) -> usize
     count.div_ceil(8)
 }
 
-/// Up to eight bits in a byte, the first of them the least.
+/// Up to eight bits as a byte, from the lowest bit on.
 fn byte_of(bits: &[u8]) -> u8
     requires { length bits.now ≤ 8 }
     ensures number { result ≡ written.bits_number bits.now }
@@ -61,7 +62,8 @@ fn byte_of(bits: &[u8]) -> u8
 }
 
 fn write_varint(turns: u32, number: u32, into: &mut Vec<u8>) -> Result<(), OutOfMemory>
-    ensures appended { OnOk result (into.new.items ≡ into.old.items ++ written.varint_text turns number) }
+    ensures appended { OnOk result (into.new.items ≡
+        into.old.items ++ written.varint_text turns number) }
     ensures kept { OnErr result (take (length into.old.items) into.new.items ≡ into.old.items) }
 {
     if turns == 0 {

@@ -1,4 +1,4 @@
--- Base64 and hex, decoded and encoded again.
+-- Lemmas about decoding base64 and hex and encoding it again.
 use Rattle.std.proofs.Common.{◌≡◌, ◌↔◌, ℕ, ◌+◌, ◌-◌, ◌*◌, ◌/◌, ◌%◌, ◌≤◌, true, List, ◌++◌, length, replicate, Option, Some, None, is_some, IsSome, IfSome, Result, Ok, Err, refl, ap, subst, sym, ◌∙◌, arith}
 use Rattle.std.proofs.lemmas.List.{length-append, length-replicate}
 use Rattle.std.proofs.lemmas.Str.{IsUtf8-from_ascii}
@@ -19,9 +19,9 @@ ok_of : {T E : Type 0} (r : Result T E) (x : T) → result_ok r ≡ Some x → r
 ok_of (Ok y) x is = cc is
 ok_of (Err e) x is = cc is
 
-pub base64_undone : (bytes : List ℕ) → IsBytes bytes → bytes_of_base64 (base64_text bytes) ≡ Some bytes
+pub base64_round_trips : (bytes : List ℕ) → IsBytes bytes → bytes_of_base64 (base64_text bytes) ≡ Some bytes
 unfolding base64_text bytes_of_base64 engine.decoded_of
-base64_undone bytes small = ap result_ok (decode_of-encode_of standard bytes refl small)
+base64_round_trips bytes small = ap result_ok (decode_of-encode_of standard bytes refl small)
 
 pub base64_exact : (text bytes : List ℕ) → IsBytes text → IsBytes bytes → (bytes_of_base64 text ≡ Some bytes) ↔ (text ≡ base64_text bytes)
 unfolding base64_text bytes_of_base64 engine.decoded_of
@@ -38,9 +38,9 @@ base64_utf8 bytes = IsUtf8-from_ascii _ (IsAscii-encode_of standard bytes)
 four_for_three : (n : ℕ) → (4 * n + 2) / 3 + (3 - n % 3) % 3 ≡ 4 * ((n + 2) / 3)
 four_for_three n = omega arith
 
-pub base64_sized : (bytes : List ℕ) → length (base64_text bytes) ≡ 4 * ((length bytes + 2) / 3)
+pub base64_length : (bytes : List ℕ) → length (base64_text bytes) ≡ 4 * ((length bytes + 2) / 3)
 unfolding base64_text
-base64_sized bytes =
+base64_length bytes =
     let symbols : List ℕ = encode_symbols standard.encode_table bytes in
     let padding : List ℕ = replicate (padding_len (length bytes)) standard.padding.value in
     let long : length (symbols ++ padding) ≡ length symbols + length padding = length-append symbols padding in
@@ -56,11 +56,11 @@ pub base64_shorter : (text bytes : List ℕ) → IsBytes text → bytes_of_base6
 unfolding base64_text bytes_of_base64 engine.decoded_of
 base64_shorter text bytes small is =
     let encoded = decode_of_strict standard text bytes (refl, refl) small (ok_of _ bytes is) in
-    no_longer (length text) (length bytes) (ap length encoded ∙ base64_sized bytes)
+    no_longer (length text) (length bytes) (ap length encoded ∙ base64_length bytes)
 
-pub hex_undone : (bytes : List ℕ) → IsBytes bytes → bytes_of_hex (hex_text bytes) ≡ Some bytes
+pub hex_round_trips : (bytes : List ℕ) → IsBytes bytes → bytes_of_hex (hex_text bytes) ≡ Some bytes
 unfolding bytes_of_hex hex_text
-hex_undone bytes small = ap result_ok (decode_of-encode_lower bytes small)
+hex_round_trips bytes small = ap result_ok (decode_of-encode_lower bytes small)
 
 some_of : {T : Type 0} (o : Option T) → IsSome o → (x : T) × (o ≡ Some x)
 some_of (Some x) some = (x, refl)

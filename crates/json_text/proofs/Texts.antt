@@ -1,4 +1,4 @@
--- A text that is UTF-8 means what its characters mean, and another text means nothing.
+-- The value of a UTF-8 text is the value of its characters; a text that isn't UTF-8 has no value.
 use Rattle.std.proofs.Common.{◌≡◌, ℕ, List, Bool, true, false, Option, None, if◌then◌else◌, refl}
 use Rattle.std.specs.Str.{IsUtf8, is_utf8}
 use Rattle.std.proofs.lemmas.Str.{IsUtf8-from_is_utf8, is_utf8-from_IsUtf8}

@@ -1,3 +1,4 @@
+// Building of JSON values.
 ghost use Rattle.std.specs.Prelude.{◌≡◌, [], ◌∷◌, ◌++◌, IsUtf8, IfOk, OnOk, OnErr};
 ghost use Rattle.serde_json.specs.Data.{string, number, unsigned, boolean, array, object, no_members, put as with_member};
 ghost use Rattle.serde_json.specs.View.{view, items_of};
@@ -7,7 +8,7 @@ use pme_base::OutOfMemory;
 use serde_json::{Map, Value};
 use std::alloc::Global;
 
-/// A text as a value.
+/// A JSON string.
 pub fn text_value(alloc: Global, text: &str) -> Result<Value, OutOfMemory>
     ensures { IfOk result (λ value. view value ≡ string text.now) }
 {
@@ -15,7 +16,7 @@ pub fn text_value(alloc: Global, text: &str) -> Result<Value, OutOfMemory>
     Ok(value)
 }
 
-/// The same of a text that is at hand as its bytes.
+/// A JSON string from the bytes of UTF-8 text.
 pub fn text_value_of_bytes(alloc: Global, text: &[u8]) -> Result<Value, OutOfMemory>
     requires { IsUtf8 text.now }
     ensures { IfOk result (λ value. view value ≡ string text.now) }
@@ -26,28 +27,28 @@ pub fn text_value_of_bytes(alloc: Global, text: &[u8]) -> Result<Value, OutOfMem
     text_value(alloc, text)
 }
 
-/// A whole number as a value.
+/// A JSON number from an integer.
 pub fn whole_number_value(whole: u64) -> Value
     ensures { view result ≡ number (unsigned whole) }
 {
     Value::from(whole)
 }
 
-/// A truth value as a value.
+/// A JSON boolean.
 pub fn truth_value(truth: bool) -> Value
     ensures { view result ≡ boolean truth }
 {
     Value::from(truth)
 }
 
-/// An object as it is built. Contracts speak of its members by `members_built`.
+/// Builds a JSON object. Contracts refer to its members by `members_built`.
 #[derive(Drop)]
 pub struct ObjectBuilder {
     members: Map<String, Value>,
 }
 
 impl ObjectBuilder {
-    /// The object with no member; it takes no memory yet.
+    /// An object without members. It allocates nothing.
     #[tactic(auto, unfolding(crate::specs::Built::members_built))]
     pub fn new(alloc: Global) -> ObjectBuilder
         ensures { members_built result ≡ no_members }
@@ -57,17 +58,18 @@ impl ObjectBuilder {
         }
     }
 
-    /// Puts `value` at `name`, in place of a member of that name.
+    /// Sets member `name` to `value`, replacing an earlier member with that name. An error leaves the object unchanged.
     #[tactic(auto, unfolding(crate::specs::Built::members_built))]
     pub fn put(&mut self, alloc: Global, name: &str, value: Value) -> Result<(), OutOfMemory>
-        ensures ok { OnOk result (members_built self.new ≡ with_member name.now (view value) (members_built self.old)) }
+        ensures ok { OnOk result (members_built self.new ≡ with_member name.now (view value)
+            (members_built self.old)) }
         ensures unchanged { OnErr result (members_built self.new ≡ members_built self.old) }
     {
         serde_json::put(&mut self.members, alloc, name, value)?;
         Ok(())
     }
 
-    /// The object.
+    /// The finished object.
     #[tactic(auto, unfolding(crate::specs::Built::members_built))]
     pub fn finish(self) -> Value
         ensures { view result ≡ object (members_built self) }
@@ -76,14 +78,14 @@ impl ObjectBuilder {
     }
 }
 
-/// A list as it is built. Contracts speak of what its items mean by `items_built`.
+/// Builds a JSON array. Contracts refer to its items by `items_built`.
 #[derive(Drop)]
 pub struct ListBuilder {
     items: Vec<Value>,
 }
 
 impl ListBuilder {
-    /// The list with no item; it takes no memory yet.
+    /// An array without items. It allocates nothing.
     #[tactic(auto, unfolding(crate::specs::Built::items_built))]
     pub fn new(alloc: Global) -> ListBuilder
         ensures { items_built result ≡ [] }
@@ -93,7 +95,7 @@ impl ListBuilder {
         }
     }
 
-    /// Adds `value` at the end.
+    /// Appends `value`. An error leaves the array unchanged.
     #[tactic(auto, unfolding(crate::specs::Built::items_built))]
     pub fn push(&mut self, value: Value) -> Result<(), OutOfMemory>
         ensures ok { OnOk result (items_built self.new ≡ items_built self.old ++ view value ∷ []) }
@@ -103,7 +105,7 @@ impl ListBuilder {
         Ok(())
     }
 
-    /// The list.
+    /// The finished array.
     #[tactic(auto, unfolding(crate::specs::Built::items_built))]
     pub fn finish(self) -> Value
         ensures { view result ≡ array (items_of (items_built self)) }

@@ -1,20 +1,20 @@
-// Laws of the definitions, each the contract of a function that does nothing.
-ghost use Rattle.json_text.specs.Codings.{Base64IsUndone, Base64IsExact, Base64IsUtf8, Base64IsFourForThree, Base64IsNoLonger, HexIsUndone, HexIsDigits, HexIsTwiceAsLong};
+// Laws of the base64 and hex definitions, each the contract of an empty function.
+ghost use Rattle.json_text.specs.Codings.{Base64RoundTrips, Base64IsExact, Base64IsUtf8, Base64IsFourForThree, Base64IsNoLonger, HexRoundTrips, HexIsDigits, HexIsTwiceAsLong};
 
-/// The laws that decoding base64 undoes encoding, that no other text decodes to the same bytes, that base64 text is
-/// UTF-8 and has four bytes for each three, and that the bytes of a text are never more than the text has.
+/// Base64 text decodes to the encoded bytes, and no other text does; it is UTF-8 with four characters for each three bytes;
+/// and decoded bytes are never longer than their text.
 pub fn base64_is_exact()
-    ensures undone { Base64IsUndone }
+    ensures round_trip { Base64RoundTrips }
     ensures exact { Base64IsExact }
     ensures utf8 { Base64IsUtf8 }
-    ensures sized { Base64IsFourForThree }
+    ensures long { Base64IsFourForThree }
     ensures shorter { Base64IsNoLonger }
 {}
 
-/// The laws that decoding hex undoes encoding, that every even number of digits decodes and nothing else, and that
-/// there are two digits for each byte.
+/// Hex text decodes to the encoded bytes; exactly the texts with an even number of hex digits can be decoded; and there are
+/// two digits for each byte.
 pub fn hex_is_exact()
-    ensures undone { HexIsUndone }
+    ensures round_trip { HexRoundTrips }
     ensures digits { HexIsDigits }
     ensures twice { HexIsTwiceAsLong }
 {}

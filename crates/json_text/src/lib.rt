@@ -1,10 +1,9 @@
-// JSON texts (RFC 8259), base64 and hex (RFC 4648), each as a function from bytes to what they mean and back.
-// The crates above read and write their files with these calls, and state what they read by the words of `specs/`.
-//
-// A value is `serde_json`'s own, since its parts are then lent without a copy: `value.as_object()` lends the
-// members, which `for (name, value) in members.iter()` goes over in byte order, as `first_other_than_text` does. A
-// crate whose functions name `Value` or `Map` lists `serde_json` beside this crate in crates.txt, and takes the
-// words from here.
+//! JSON (RFC 8259), base64 and hex (RFC 4648): functions from bytes to values and back. The crates above read and write
+//! their files with these calls, and their contracts use the definitions in `specs/`.
+//!
+//! Values are those of `serde_json`, whose parts can be borrowed without a copy: `value.as_object()` borrows the members,
+//! and `for (name, value) in members.iter()` visits them in byte order of their names, as in `first_other_than_text`. A
+//! crate whose functions mention `Value` or `Map` lists `serde_json` in crates.txt and imports both names from here.
 #![tactic(auto)]
 
 mod access;

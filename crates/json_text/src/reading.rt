@@ -1,3 +1,4 @@
+// Parsing of JSON text.
 ghost use Rattle.std.specs.Prelude.{◌≡◌, IfOk, IfSome, option_map};
 ghost use Rattle.serde_json.specs.View.{view};
 ghost use Rattle.json_text.specs.Json.{json_of, object_of};
@@ -7,9 +8,9 @@ use pme_base::OutOfMemory;
 use serde_json::Value;
 use std::alloc::Global;
 
-/// The value of a JSON text; None exactly where the bytes are none: not UTF-8, another grammar, or arrays and
-/// objects nested more than 127 deep. Where an object names a member twice, the last one stays. The members of an
-/// object stand in ascending byte order of their names.
+/// Parses JSON text. None if the bytes aren't valid JSON in UTF-8, or if arrays and objects are nested more than 127 levels
+/// deep. If an object repeats a name, the last member counts. The members of an object are in ascending byte order of
+/// their names.
 #[tactic(auto, using(crate::proofs::Order::in_byte_order))]
 pub fn read_json(alloc: Global, bytes: &[u8]) -> Result<Option<Value>, OutOfMemory>
     ensures value { IfOk result (λ value. option_map view value ≡ json_of bytes.now) }

@@ -1,3 +1,4 @@
+// Writing of JSON text.
 ghost use Rattle.std.specs.Prelude.{IsUtf8, IfOk};
 ghost use Rattle.serde_json.specs.View.{view};
 ghost use Rattle.json_text.specs.Json.{IsTextOf};
@@ -6,7 +7,7 @@ use pme_base::{Bytes, OutOfMemory};
 use serde_json::Value;
 use std::alloc::Global;
 
-/// The text of a value, with no space and with each object's names in ascending byte order.
+/// Writes a value as compact JSON text, with the names of each object in ascending byte order.
 pub fn write_json(alloc: Global, value: &Value) -> Result<Bytes, OutOfMemory>
     ensures text { IfOk result (λ text. IsTextOf text (view value.now)) }
     ensures utf8 { IfOk result (λ text. IsUtf8 text) }

@@ -1,4 +1,4 @@
--- The texts of keys are 32, 48 or 64 hex digits.
+-- The text of a key is 32, 48 or 64 hex digits.
 use Rattle.std.proofs.Common.{◌≡◌, ◌↔◌, ◌⊎◌, inl, inr, ℕ, ◌*◌, ◌%◌, ◌==◌, ◌||◌, Bool, true, false, List, length, Option, Some, None, IsSome, is_some, option_and_then, if◌then◌else◌, refl, ap, arith}
 use Rattle.std.proofs.lemmas.Bool.Decides.{nat_tests}
 use Rattle.std.specs.List.{AllPass}

@@ -1,4 +1,4 @@
--- An entry tells its owner and its nonce.
+-- An entry determines its owner and its nonce.
 use Rattle.std.proofs.Common.{◌≡◌, ◌↔◌, ◌⊎◌, inl, inr, ℕ, Bool, true, false, ◌||◌, List, ◌∷◌, ◌++◌, length, take, drop, slice_index, refl, sym, ap, ◌∙◌, arith}
 use Rattle.std.specs.declared.cmp.Ordering.TheVariants.{Less, Equal, Greater}
 use Rattle.std.specs.Ordering.{nat_cmp, is_eq, eq_by_cmp}
@@ -11,7 +11,7 @@ use Rattle.key_rights.specs.declared.nonces.NonceOwner.{NonceOwner}
 use Rattle.key_rights.specs.declared.nonces.NonceOwner.TheVariants.{Key, Master}
 use Rattle.key_rights.specs.Nonces.{Taken, entry, is_taken, with_taken}
 
--- lists that end in parts of one length
+-- equal lists whose last parts have equal lengths have equal parts
 split : (a b m n : List ℕ) → length m ≡ length n → a ++ m ≡ b ++ n → (a ≡ b) × (m ≡ n)
 split a b m n long same =
     let fronts : length a ≡ length b = omega (arith, long, ap length same, length-append a m, length-append b n) in (
@@ -36,7 +36,7 @@ distinct_entries (Master a) (Key b) m n long_m long_n same = absurd (other_kinds
 pub none_taken : (owner : NonceOwner) (nonce : List ℕ) → contains (empty {R = slice_cmp nat_cmp}) (entry owner nonce) ≡ false
 none_taken owner nonce = contains-empty (slice_cmp nat_cmp) (entry owner nonce)
 
--- tests of an entry against one that was put in, and of the rest
+-- membership of an entry after another one has been inserted
 is_either : (x y : List ℕ) (rest : Bool) → (eq_by_cmp (slice_cmp nat_cmp) x y || rest) ≡ true → (x ≡ y) ⊎ (rest ≡ true)
 is_either x y rest =
     elim (slice_cmp nat_cmp x y) as (λ o. slice_cmp nat_cmp x y ≡ o → (is_eq o || rest) ≡ true → (x ≡ y) ⊎ (rest ≡ true)) [

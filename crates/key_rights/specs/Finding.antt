@@ -1,4 +1,4 @@
--- What is asked of a finder of keys, and what it may answer.
+-- The questions to a key finder, and its possible answers.
 use Rattle.std.specs.Prelude.{ℕ, ◌≤◌, List, Bool, true, false, Option, Result, IsErrOf}
 use Rattle.pme_base.specs.Counts.{Rose}
 use Rattle.pme_base.specs.declared.refusal.Cause.{Cause}
@@ -8,7 +8,7 @@ use Rattle.key_rights.specs.declared.finder.KeyAnswer.TheVariants.{Held, Absent,
 use Rattle.key_rights.specs.declared.finder.KeyTrouble.{KeyTrouble}
 use Rattle.key_rights.specs.declared.finder.KeyTrouble.TheVariants.{Failed}
 
--- the key of a footer or of a column, by the key's metadata where there is some, and the column's path
+-- the question for the key of a footer or of a column: the key metadata, if the file has any, and the path of the column
 pub data Asked : Type 0 where
   footer : Option (List ℕ) → Asked
   column : Option (List ℕ) → List ℕ → Asked
@@ -26,7 +26,7 @@ is_key_answer (Held key) = true
 is_key_answer Absent = true
 is_key_answer (Refused cause detail) = is_key_cause cause
 
--- the count of faults never falls, and a call fails only where it rose
+-- a call never decreases the count of faults, and it fails only if it has increased the count or the count is 2^64 - 1
 pub record KeyFaults {T : Type 0} (before now : ℕ) (result : Result T KeyTrouble) : Type 0 where
   pub later : before ≤ now
   pub failed : IsErrOf result Failed → Rose before now

@@ -1,4 +1,4 @@
--- A keys file refuses no key: each answer is a key or Absent.
+-- A keys file never gives a refusal: each answer is a key or Absent.
 use Rattle.std.specs.Prelude.{◌≡◌, ℕ, List, [], ◌∷◌, true, false, if◌then◌else◌, refl}
 use Rattle.std.specs.Str.{bytes_eq}
 use Rattle.key_rights.specs.declared.id_key.IdKey.{IdKey}

@@ -1,10 +1,11 @@
+// A key with its id.
 use aes_block::AesKey;
 use pme_base::Bytes;
 
-/// A key by its id.
+/// A key with its id.
 #[derive(Drop)]
 pub struct IdKey {
-    /// The bytes of a text.
+    /// The id: the bytes of UTF-8 text.
     pub id: Bytes,
     pub key: AesKey,
 }

@@ -1,24 +1,29 @@
-// A keys file, which names each key by an id.
-ghost use Rattle.std.specs.Prelude.{◌≡◌, ◌++◌, Err, Ok, codes, IfOk, IfErr, IfSome};
+// Keys files: JSON files that map ids to keys.
+ghost use Rattle.std.specs.Prelude.{◌≡◌, ◌++◌, false, Err, Ok, codes, IfOk, IfErr, IfSome};
 ghost use Rattle.json_text.specs.View.{view, members_view};
 ghost use Rattle.json_text.specs.Json.{object_of};
 ghost use Rattle.json_text.specs.Members.{each_member};
 ghost use Rattle.json_text.specs.Order.{AreInByteOrder};
 ghost use Rattle.key_rights.specs.KeysFile as file;
+ghost use Rattle.key_rights.specs.Making.{is_free_refusal};
+ghost use Rattle.key_rights.specs.MakingById.{has_id, made_by_id, made_by_ids};
+ghost use Rattle.key_rights.specs.declared.maker.MakeRefusal.TheVariants as refusal_is;
 
 use crate::finder::{KeyAnswer, KeyFinder, KeyTrouble};
 use crate::id_key::IdKey;
+use crate::maker::{KeyMaker, MadeKey, MakeRefusal};
+use crate::nonces::NonceSet;
 use aes_block::AesKey;
 use json_text::{Map, Value, bytes_of_hex, read_json};
-use pme_base::{Bytes, OutOfMemory, Sequence};
+use pme_base::{Bytes, OutOfMemory, Random, Sequence};
 use std::alloc::Global;
 use std::marker::Model;
 use thiserror::Error;
 
-/// Why a keys file was not read.
+/// Why a keys file can't be read.
 #[derive(Debug, Drop, Error)]
 pub enum KeysRefusal {
-    /// The first id in byte order whose value isn't the text of a key; the empty text where the bytes are no object.
+    /// The first id in byte order whose value isn't a valid key, or the empty id if the bytes aren't a JSON object.
     #[error("Bad")]
     Bad(Bytes),
     /// Memory was refused.
@@ -36,7 +41,7 @@ impl From<OutOfMemory> for KeysRefusal {
     }
 }
 
-/// The keys of a keys file. Contracts see them as the list of ids and keys, in the order of their ids' bytes.
+/// The keys of a keys file. Contracts see them as the list of ids and keys, in byte order of the ids.
 #[derive(Drop)]
 pub struct IdKeys {
     keys: Sequence<IdKey>,
@@ -52,12 +57,13 @@ impl Model for IdKeys {
 }
 
 impl IdKeys {
-    /// Reads a keys file: a JSON object from id to the key's text, which has 32, 48 or 64 hex digits of either case.
-    /// Where an id is named twice, its last key stays.
+    /// Parses a keys file: a JSON object that maps each id to a key of 32, 48 or 64 hex digits of either case. If an id is
+    /// repeated, its last key counts.
     #[tactic(auto, unfolding(crate::specs::KeysFile::keys_of_file))]
     pub fn parse(alloc: Global, bytes: &[u8]) -> Result<IdKeys, KeysRefusal>
         ensures ok { IfOk result (λ keys. file.keys_of_file bytes.now ≡ Ok keys) }
-        ensures err { IfErr result (λ refusal. file.IsRefusalOf (file.keys_of_file bytes.now) refusal) }
+        ensures err { IfErr result (λ refusal. file.IsRefusalOf
+            (file.keys_of_file bytes.now) refusal) }
         ensures order { IfSome (object_of bytes.now) AreInByteOrder }
     {
         let Some(value) = read_json(alloc, bytes)? else {
@@ -70,20 +76,41 @@ impl IdKeys {
         Ok(IdKeys { keys })
     }
 
-    // The key by an id.
+    // The key with this id, or Absent.
     fn key_by_id(&self, id: &[u8]) -> KeyAnswer
         ensures { result ≡ file.key_by_id self.now id.now }
     {
         key_among(self.keys.as_slice(), id)
     }
+
+    // The key with this id, whose metadata is the id; Denied if there is none.
+    fn made_by_id(&self, alloc: Global, id: &str) -> Result<MadeKey, MakeRefusal>
+        ensures ok { IfOk result (λ made. made_by_id self.now id.now ≡ Ok made) }
+        ensures err { IfErr result (λ refusal. is_free_refusal refusal ≡ false
+            → made_by_id self.now id.now ≡ Err refusal) }
+        ensures quiet { IfErr result (λ refusal. refusal ≡ refusal_is.RandomFault → ⊥) }
+        ensures no_service { IfErr result (λ refusal. refusal ≡ refusal_is.ServiceFault → ⊥) }
+    {
+        match self.key_by_id(id.as_bytes()) {
+            KeyAnswer::Held(key) => {
+                let metadata = Bytes::copy_of(alloc, id.as_bytes())?;
+                Ok(MadeKey { key, metadata })
+            }
+            KeyAnswer::Absent => Err(MakeRefusal::Denied),
+            KeyAnswer::Refused(_cause, _detail) => Err(MakeRefusal::Denied),
+        }
+    }
 }
 
+// The keys of all members, or the refusal for the first invalid one.
 fn keys_of_members(
     alloc: Global,
     members: &Map<String, Value>,
 ) -> Result<Sequence<IdKey>, KeysRefusal>
-    ensures ok { IfOk result (λ keys. each_member file.key_of_member (members_view members.now.entries) ≡ Ok keys) }
-    ensures err { IfErr result (λ refusal. file.IsRefusalOf (each_member file.key_of_member (members_view members.now.entries)) refusal) }
+    ensures ok { IfOk result (λ keys. each_member file.key_of_member
+        (members_view members.now.entries) ≡ Ok keys) }
+    ensures err { IfErr result (λ refusal. file.IsRefusalOf
+        (each_member file.key_of_member (members_view members.now.entries)) refusal) }
 {
     let mut keys = Sequence::new(alloc);
     for (id, value) in members.iter() {
@@ -95,6 +122,7 @@ fn keys_of_members(
     Ok(keys)
 }
 
+// The refusal for the id of an invalid key.
 fn bad_id(alloc: Global, id: &[u8]) -> KeysRefusal
     ensures { file.IsRefusalOf (Err id.now) result }
 {
@@ -104,6 +132,7 @@ fn bad_id(alloc: Global, id: &[u8]) -> KeysRefusal
     }
 }
 
+// The key of a member; None if its value is invalid.
 #[tactic(auto, unfolding(crate::specs::KeysFile::key_of_member))]
 fn key_of_member(alloc: Global, id: &[u8], value: &Value) -> Result<Option<IdKey>, OutOfMemory>
     ensures { IfOk result (λ key. key ≡ file.key_of_member id.now (view value.now)) }
@@ -118,6 +147,7 @@ fn key_of_member(alloc: Global, id: &[u8], value: &Value) -> Result<Option<IdKey
     Ok(Some(IdKey { id, key }))
 }
 
+// The key with this hex text; None if it is invalid.
 #[tactic(auto, unfolding(crate::specs::KeysFile::key_of_text))]
 fn key_of_text(alloc: Global, text: &str) -> Result<Option<AesKey>, OutOfMemory>
     ensures { IfOk result (λ key. key ≡ file.key_of_text text.now) }
@@ -131,6 +161,7 @@ fn key_of_text(alloc: Global, text: &str) -> Result<Option<AesKey>, OutOfMemory>
     }
 }
 
+// The first key in the list with this id, or Absent.
 fn key_among(keys: &[IdKey], id: &[u8]) -> KeyAnswer
     ensures { result ≡ file.key_by_id keys.now id.now }
 {
@@ -142,7 +173,7 @@ fn key_among(keys: &[IdKey], id: &[u8]) -> KeyAnswer
     KeyAnswer::Absent
 }
 
-// The id of a column whose key has no metadata.
+// The id of the key for a column without key metadata: `column:` and the path.
 fn column_id(alloc: Global, path: &str) -> Result<Bytes, OutOfMemory>
     ensures { IfOk result (λ id. id ≡ codes "column:" ++ path.now) }
 {
@@ -184,5 +215,37 @@ impl KeyFinder for IdKeys {
                 Ok(self.key_by_id(id.as_slice()))
             }
         }
+    }
+}
+
+impl KeyMaker for IdKeys {
+    ghost behaves = { made_by_ids };
+
+    ghost has = { has_id };
+
+    ghost faults = { λ _. 0 };
+
+    fn make_footer<N: Random>(
+        &mut self,
+        alloc: Global,
+        id: &str,
+        _random: &mut N,
+        _nonces: &mut NonceSet,
+    ) -> Result<MadeKey, MakeRefusal> {
+        self.made_by_id(alloc, id)
+    }
+
+    fn make_column<N: Random>(
+        &mut self,
+        alloc: Global,
+        id: &str,
+        _random: &mut N,
+        _nonces: &mut NonceSet,
+    ) -> Result<MadeKey, MakeRefusal> {
+        self.made_by_id(alloc, id)
+    }
+
+    fn external_text(&self, _alloc: Global) -> Result<Option<Bytes>, OutOfMemory> {
+        Ok(None)
     }
 }

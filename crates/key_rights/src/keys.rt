@@ -1,10 +1,10 @@
-// Keys that open the parts of a file.
+// Keys with the part of a file that they may decrypt, as types.
 ghost use Rattle.std.specs.Prelude.{◌≡◌};
 
 use aes_block::AesKey;
 use std::marker::Model;
 
-/// A key that opens or signs a file's footer. Contracts see it as the list of its bytes.
+/// A key that decrypts or signs the footer of a file. Contracts see it as the list of its bytes.
 #[derive(Drop)]
 pub struct FooterKey {
     key: AesKey,
@@ -19,14 +19,14 @@ impl Model for FooterKey {
 }
 
 impl FooterKey {
-    /// The key for footers.
+    /// Marks a key as one for footers.
     pub fn new(key: AesKey) -> FooterKey
         ensures { result ≡ key }
     {
         FooterKey { key }
     }
 
-    /// The key, lent.
+    /// The key itself.
     pub fn key(&self) -> &AesKey
         ensures { result.now ≡ self.now }
     {
@@ -34,7 +34,7 @@ impl FooterKey {
     }
 }
 
-/// A key that opens a column's metadata and pages. Contracts see it as the list of its bytes.
+/// A key that decrypts the metadata and pages of a column. Contracts see it as the list of its bytes.
 #[derive(Drop)]
 pub struct ColumnKey {
     key: AesKey,
@@ -49,14 +49,14 @@ impl Model for ColumnKey {
 }
 
 impl ColumnKey {
-    /// The key for a column.
+    /// Marks a key as one for a column.
     pub fn new(key: AesKey) -> ColumnKey
         ensures { result ≡ key }
     {
         ColumnKey { key }
     }
 
-    /// The key, lent.
+    /// The key itself.
     pub fn key(&self) -> &AesKey
         ensures { result.now ≡ self.now }
     {

@@ -1,5 +1,5 @@
-// Keys by what they may open (a file's footer, or a column), the finders that answer which key a file's part has,
-// and the nonces that each key has used: under one key of GCM no nonce may come twice (SP 800-38D, section 8).
+//! Keys by the part of a file that they may decrypt (its footer or a column), the interface of key finders, keys files, and
+//! the set of nonces that each key has used: a GCM key must not use a nonce twice (SP 800-38D, section 8).
 #![tactic(auto)]
 
 ghost use Rattle.key_rights.specs.KeysFile.{KeysAreHex};
@@ -9,23 +9,25 @@ mod finder;
 mod id_key;
 mod id_keys;
 mod keys;
+mod maker;
 mod nonces;
 
 pub use finder::{KeyAnswer, KeyFinder, KeyTrouble};
 pub use id_key::IdKey;
 pub use id_keys::{IdKeys, KeysRefusal};
 pub use keys::{ColumnKey, FooterKey};
+pub use maker::{KeyMaker, MadeKey, MakeRefusal};
 pub use nonces::{NonceOwner, NonceRefusal, NonceSet};
 
-/// The laws that a set of nonces keeps pairs of an owner and a nonce: no two pairs are kept alike, the empty set
-/// has none, and taking one adds that pair alone.
+/// A set of nonces is a set of pairs of an owner and a nonce: different pairs have different entries, the empty set holds no
+/// pair, and taking a nonce adds exactly that pair.
 pub fn pairs_are_told_apart()
     ensures distinct { DistinctEntries }
     ensures none { NoneTaken }
     ensures one { OneTaken }
 {}
 
-/// The law that the text of a key in a keys file is 32, 48 or 64 hex digits of either case.
+/// A key in a keys file is valid if and only if it has 32, 48 or 64 hex digits of either case.
 pub fn keys_are_hex()
     ensures { KeysAreHex }
 {}

@@ -1,4 +1,4 @@
-// The nonces that were taken, each for its owner.
+// The set of nonces that each key has used.
 ghost use Rattle.std.specs.Prelude.{◌≡◌, true, false, OnOk, OnErr, IfOk, IsErrOf};
 ghost use Rattle.std.specs.FinSet as set;
 ghost use Rattle.key_rights.specs.Nonces.{entry as entry_of, is_taken, with_taken};
@@ -9,19 +9,19 @@ use std::collections::BTreeSet;
 use std::marker::Model;
 use thiserror::Error;
 
-/// Whose nonces may not repeat.
+/// The key whose nonces must not repeat.
 #[derive(Drop)]
 pub enum NonceOwner {
-    /// A key, by its bytes.
+    /// A key, identified by its bytes.
     Key(Bytes),
-    /// A master key that isn't at hand, by its id.
+    /// A master key of a key service, identified by its id.
     Master(Bytes),
 }
 
-/// Why a nonce was not taken.
+/// Why a nonce can't be taken.
 #[derive(Clone, Copy, Debug, PartialEq, Eq, Drop, Error)]
 pub enum NonceRefusal {
-    /// Its owner took it before.
+    /// The owner has already used this nonce.
     #[error("Repeated")]
     Repeated,
     /// Memory was refused.
@@ -29,7 +29,7 @@ pub enum NonceRefusal {
     OutOfMemory,
 }
 
-/// A set of nonces, each with its owner. Its time grows with the logarithm of their number.
+/// A set of used nonces, each with its owner. Taking a nonce takes time logarithmic in the size of the set.
 #[derive(Drop)]
 pub struct NonceSet {
     alloc: Global,
@@ -51,7 +51,7 @@ impl Model for NonceSet {
 }
 
 impl NonceSet {
-    /// The set with no nonce; it takes no memory yet.
+    /// The empty set. It allocates nothing.
     pub fn new(alloc: Global) -> NonceSet
         ensures { result ≡ set.empty }
     {
@@ -61,11 +61,12 @@ impl NonceSet {
         }
     }
 
-    /// Takes a nonce for its owner, once. A refusal leaves the set as it was.
+    /// Records that the owner uses a nonce. Repeated if the owner has used it before. An error leaves the set unchanged.
     pub fn take(&mut self, owner: &NonceOwner, nonce: [u8; 12]) -> Result<(), NonceRefusal>
         ensures fresh { OnOk result (is_taken self.old owner.now nonce ≡ false) }
         ensures taken { OnOk result (self.new ≡ with_taken self.old owner.now nonce) }
-        ensures repeated { IsErrOf result NonceRefusal.Repeated → is_taken self.old owner.now nonce ≡ true }
+        ensures repeated { IsErrOf result NonceRefusal.Repeated →
+            is_taken self.old owner.now nonce ≡ true }
         ensures same { OnErr result (self.new ≡ self.old) }
     {
         let entry = match entry(self.alloc, owner, &nonce) {
@@ -81,7 +82,7 @@ impl NonceSet {
     }
 }
 
-// What is kept of a nonce and its owner.
+// The set's entry for a nonce and its owner.
 fn entry(alloc: Global, owner: &NonceOwner, nonce: &[u8; 12]) -> Result<Vec<u8>, OutOfMemory>
     ensures { IfOk result (λ entry. entry.items ≡ entry_of owner.now nonce.now) }
 {

@@ -1,4 +1,4 @@
--- What the plans of the tests keep.
+-- The limits that the plans of the tests keep.
 use Rattle.std.proofs.Common.{List, [], ◌∷◌, ◌++◌}
 use Rattle.std.specs.List.{All}
 use Rattle.std.proofs.lemmas.List.Elements.{All-push}

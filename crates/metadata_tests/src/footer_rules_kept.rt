@@ -1,16 +1,17 @@
+// Footers that keep or break a rule, and the results of reading them.
 use footer_rules::file_of;
 use parquet_types::{
-    ChunkCrypto, ColumnChunk, ColumnCrypto, ColumnKind, ColumnSpec, FileFields, FileMeta, PathList,
-    RowGroup, SchemaElement,
+    ChunkCrypto, ColumnChunk, ColumnCrypto, ColumnKind, ColumnSpec, FileMeta, PathList,
+    RawFileMeta, RowGroup, SchemaElement,
 };
 use pme_base::{Bytes, OutOfMemory, Place, Refusal, Sequence};
 use std::alloc::Global;
 use std::process::Abort;
 use std::test::Fail;
 
-// What is changed in a footer of the INT64 columns a, b and c, with two groups of 3 and 2 rows, and the answer. The
-// changes are in the root's count of children, in column c, in the file's rows, and in the first group and its chunk
-// of column c; `-` leaves a field out, and the name `!` is the byte ff.
+// Changes to a valid footer, and the expected result. The footer has the INT64 columns a, b and c and two row groups
+// of 3 and 2 rows. Changes are to the root's count of children, to column c, to the file's count of rows, and to the
+// first row group and its chunk of column c; `-` leaves a field out, and the name `!` is the byte ff.
 const CASES: &str = "\
 : passes
 root=none: MissingField Field(SchemaElement, 4)
@@ -68,7 +69,7 @@ file=f path=b: Unsupported Field(ColumnChunk, 1)
 path=b rows=6: Mismatch Names(Bytes { items: [98] }, Bytes { items: [99] })
 ";
 
-// The value of a key among changes.
+// The value of a key in a line of changes.
 fn value_of<'a>(changes: &'a str, key: &str) -> Option<&'a str> {
     for word in changes.split_whitespace() {
         if let Some((name, value)) = word.split_once('=') {
@@ -214,8 +215,8 @@ fn groups(alloc: Global, changes: &str) -> Result<Sequence<RowGroup>, OutOfMemor
     Ok(groups)
 }
 
-fn fields_of(alloc: Global, changes: &str) -> Result<FileFields, OutOfMemory> {
-    Ok(FileFields {
+fn fields_of(alloc: Global, changes: &str) -> Result<RawFileMeta, OutOfMemory> {
+    Ok(RawFileMeta {
         schema: schema(alloc, changes)?,
         num_rows: number_of(changes, "rows", Some(5)).unwrap_or(0),
         groups: groups(alloc, changes)?,
@@ -244,7 +245,7 @@ fn answers<R: Abort + AllocGlobal>(rt: &R, changes: &str, answer: &str) -> Resul
 }
 
 #[test]
-fn the_first_broken_rule_is_told(rt: HostRuntime) -> Result<(), Fail> {
+fn the_first_broken_rule_is_reported(rt: HostRuntime) -> Result<(), Fail> {
     for case in CASES.lines() {
         let (changes, answer) = case.split_once(": ").ok_or("case")?;
         answers(&rt, changes, answer)?;
@@ -281,7 +282,7 @@ fn numbered_columns(alloc: Global, count: u16) -> Result<Sequence<SchemaElement>
 }
 
 fn many_answer(alloc: Global, columns: u16, groups: u16) -> Result<String, OutOfMemory> {
-    let fields = FileFields {
+    let fields = RawFileMeta {
         schema: numbered_columns(alloc, columns)?,
         num_rows: 0,
         groups: empty_groups(alloc, groups)?,

@@ -1,5 +1,5 @@
-// Tests that cross the crates of a file's metadata: the compact protocol, the structs of `parquet.thrift`, the rules on a
-// footer, and what is written. They stand here so that none of those crates is proved again for its tests.
+//! Tests across the crates of a file's metadata: the compact protocol, the structs of `parquet.thrift`, the rules on
+//! footers, and the writers. A crate of their own keeps those crates from being proved twice for their tests.
 #![tactic(auto)]
 
 #[cfg(test)]

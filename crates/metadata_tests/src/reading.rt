@@ -1,5 +1,5 @@
-// Bytes and what reading them answers. Expected answers are worked out by hand from Thrift's compact protocol
-// (thrift-compact-protocol.md) and the rules on faults that the crate states.
+// Bytes and the results of reading them. The expected results are worked out by hand from Thrift's compact protocol
+// (thrift-compact-protocol.md) and from the rules on errors that `thrift_compact` states.
 ghost use Rattle.std.specs.Prelude.{◌≡◌};
 ghost use Rattle.thrift_compact.specs.Standing.{IsStruct, IsWholeKind};
 
@@ -9,7 +9,8 @@ use std::process::Abort;
 use std::test::Fail;
 use thrift_compact::{FieldHead, Reader, TKind, ThriftRefusal, read_tree};
 
-/// Bytes in hex, where `NxHEX` repeats; the fault or `Length`; and its offset or how many bytes the struct takes.
+/// Each line has bytes in hex, where `NxHEX` repeats HEX N times; the error or `Length`; and the error's offset or
+/// the size of the struct in bytes.
 const CASES: &str = "\
 150200|Length|3
 15820000|Length|4
@@ -99,12 +100,12 @@ const CASES: &str = "\
 15021502150215021502 0506|Repeated|10
 15021502150215021502 050a|Repeated|10";
 
-/// A struct with a field of each kind: true, false, -1, -2, 5, the least i64, a double, abc, [1, 2], <7>, (1=>a) and a
-/// struct with the field 1.
+/// A struct with a field of each type: true, false, -1, -2, 5, the smallest i64, a double, "abc", the list [1, 2],
+/// the set <7>, the map (1=>a), and a struct with the field 1.
 const EACH_KIND: &str =
     "111213ff1403150a16 9xff 01 17 8x40 1803616263192502041a1307 1b0158020161 1c150200 00";
 
-/// Appends the bytes that a word spells.
+/// Appends the bytes that a word of a case stands for.
 fn push_word(alloc: Global, bytes: &mut Vec<u8>, word: &str) -> Result<(), Fail> {
     let (count, text) = match word.split_once("x") {
         Some((count, text)) => (count.parse::<u8>()?, text),
@@ -136,7 +137,7 @@ fn name_of(fault: ThriftFault) -> &'static str {
     }
 }
 
-/// What reading the bytes answers: a fault or `Length`, and where.
+/// The result of reading the bytes: an error or `Length`, and its number.
 fn answer(alloc: Global, bytes: &[u8]) -> Result<(&'static str, u64), Fail> {
     match read_tree(alloc, bytes) {
         Ok((_tree, length)) => Ok(("Length", length as u64)),
@@ -157,14 +158,14 @@ fn check_case<R: Abort + AllocGlobal>(rt: &R, case: &str) -> Result<(), Fail> {
 }
 
 #[test]
-fn tells_lengths_and_faults(rt: HostRuntime) -> Result<(), Fail> {
+fn reports_lengths_and_errors(rt: HostRuntime) -> Result<(), Fail> {
     for case in CASES.lines() {
         check_case(&rt, case)?;
     }
     Ok(())
 }
 
-/// Reads the head of the next field, which is the one expected.
+/// Reads the header of the next field, which must be the expected one.
 fn expect_field(rt: &impl Abort, reader: &mut Reader<'_>, id: i16, kind: TKind)
     requires { IsStruct reader.old.inner }
     ensures { IsStruct reader.new.inner }
@@ -175,7 +176,7 @@ fn expect_field(rt: &impl Abort, reader: &mut Reader<'_>, id: i16, kind: TKind)
     }
 }
 
-/// Reads a field with a whole number.
+/// Reads a field that holds an integer.
 fn expect_whole(rt: &impl Abort, reader: &mut Reader<'_>, id: i16, kind: TKind, number: i64)
     requires inside { IsStruct reader.old.inner }
     requires number { IsWholeKind kind }
@@ -188,7 +189,7 @@ fn expect_whole(rt: &impl Abort, reader: &mut Reader<'_>, id: i16, kind: TKind, 
     }
 }
 
-/// Passes a field.
+/// Skips a field.
 fn expect_any(rt: &impl Abort, reader: &mut Reader<'_>, id: i16, kind: TKind)
     requires { IsStruct reader.old.inner }
     ensures { IsStruct reader.new.inner }
@@ -200,7 +201,7 @@ fn expect_any(rt: &impl Abort, reader: &mut Reader<'_>, id: i16, kind: TKind)
     }
 }
 
-/// Reads the binary `abc`, the field 8.
+/// Reads field 8, the binary `abc`.
 fn expect_binary(rt: &impl Abort, reader: &mut Reader<'_>)
     requires { IsStruct reader.old.inner }
     ensures { IsStruct reader.new.inner }
@@ -212,7 +213,7 @@ fn expect_binary(rt: &impl Abort, reader: &mut Reader<'_>)
     }
 }
 
-/// Reads an element of a list.
+/// Reads an item of a list.
 fn expect_element(rt: &impl Abort, reader: &mut Reader<'_>, number: i64)
     ensures inner { reader.new.inner ≡ reader.old.inner }
     ensures outer { reader.new.outer ≡ reader.old.outer }
@@ -223,7 +224,7 @@ fn expect_element(rt: &impl Abort, reader: &mut Reader<'_>, number: i64)
     }
 }
 
-/// Reads the list `[1, 2]`, the field 9.
+/// Reads field 9, the list `[1, 2]`.
 fn expect_list(rt: &impl Abort, reader: &mut Reader<'_>)
     requires { IsStruct reader.old.inner }
     ensures { IsStruct reader.new.inner }
@@ -250,7 +251,7 @@ fn expect_begin(rt: &impl Abort, reader: &mut Reader<'_>)
     }
 }
 
-/// Reads the struct of field 12, with the field 1.
+/// Reads field 12, a struct with field 1.
 fn expect_struct(rt: &impl Abort, reader: &mut Reader<'_>)
     requires { IsStruct reader.old.inner }
 {

@@ -6,8 +6,8 @@ use std::process::Abort;
 use std::test::Fail;
 use thrift_compact::{TFields, TVal, read_tree, spell};
 
-/// The bytes of a struct and its canonical spelling in hex, where `NxHEX` repeats. The first cases are canonical ones or
-/// nearly so; the others have each id, size and number in a form that is longer than needed.
+/// The bytes of a struct and its canonical spelling in hex, where `NxHEX` repeats HEX N times. The first cases are
+/// canonical or nearly so; the others have each field id, size and number in a longer form than needed.
 const CASES: &str = "\
 111200|111200
 130513ff00|130513ff00
@@ -68,7 +68,7 @@ const CASES: &str = "\
 0c82000584008e000582008a0000058400820000|1c150a150e00150200
 098200fc82000584008e000582008a00000584008e000582008a000000|192c150a150e00150a150e0000";
 
-/// Appends the bytes that a word spells.
+/// Appends the bytes that a word of a case stands for.
 fn push_word(alloc: Global, bytes: &mut Vec<u8>, word: &str) -> Result<(), Fail> {
     let (count, text) = match word.split_once("x") {
         Some((count, text)) => (count.parse::<u8>()?, text),
@@ -116,7 +116,7 @@ fn spells_canonically_what_was_read(rt: HostRuntime) -> Result<(), Fail> {
 }
 
 #[test]
-fn adds_to_what_is_there(rt: HostRuntime) -> Result<(), Fail> {
+fn appends_to_the_output(rt: HostRuntime) -> Result<(), Fail> {
     let value = TVal::Struct(TFields::new(rt.alloc()));
     let mut into = Bytes::copy_of(rt.alloc(), &[9])?;
     spell(&value, &mut into)?;

@@ -1,4 +1,5 @@
-use parquet_fields::read_file_fields;
+// Structs in bytes, and the results of reading them.
+use parquet_fields::read_raw_file_meta;
 use parquet_meta::{
     read_column_meta, read_file_crypto, read_file_meta, read_page_head, read_signing,
 };
@@ -7,12 +8,12 @@ use std::alloc::Global;
 use std::process::Abort;
 use std::test::Fail;
 
-// A reader, the bytes in hex, and the answer: the cause with the struct and the field, `ok` and the count of bytes (0
-// where the reader tells none), or the fault and its offset. Each was worked out by hand from the compact protocol: a
-// field's byte is 16 times the distance from the field before and the type (1 true, 2 false, 4 i16, 5 i32, 6 i64,
-// 8 binary, 9 list, b map, c struct), and 00 ends a struct. The footer of 354 bytes was laid by hand after the form of
-// Arrow's writer, with statistics, logical types, key-value metadata, sorting columns, sizes, column orders and more; it
-// was never compared with a file that Arrow wrote.
+// Each line has a reader, the bytes in hex, and the expected result: the cause with the struct and the field id; `ok`
+// and the size in bytes (0 if the reader gives none); or the error of the compact protocol and its offset. All were
+// worked out by hand from the compact protocol: the header of a field is 16 times the difference to the id before
+// plus the type (1 true, 2 false, 4 i16, 5 i32, 6 i64, 8 binary, 9 list, b map, c struct), and 00 ends a struct. The
+// footer of 354 bytes was written by hand in the form of Arrow's writer, with statistics, logical types, key-value
+// metadata, sorting columns, sizes, column orders and more. It was never compared with a file that Arrow wrote.
 const CASES: &str = "\
 crypto 1c1c2808000102030405060700 00 18026b66 00: ok 19
 crypto 1c1c2808000102030405060700 00 18026b66 00 ff: ok 19
@@ -167,13 +168,13 @@ fn read_by(alloc: Global, reader: &str, bytes: &[u8]) -> Result<usize, Refusal> 
         "crypto" => size_of(read_file_crypto(alloc, bytes)),
         "page" => size_of(read_page_head(alloc, &place, bytes)),
         "column" => column_size(alloc, bytes),
-        "footer" => size_of(read_file_fields(alloc, &place, bytes)),
+        "footer" => size_of(read_raw_file_meta(alloc, &place, bytes)),
         "sign" => signing_size(alloc, bytes),
         _ => size_of(read_file_meta(alloc, &place, bytes)),
     }
 }
 
-fn told(alloc: Global, read: Result<usize, Refusal>) -> Result<String, Fail> {
+fn result_text(alloc: Global, read: Result<usize, Refusal>) -> Result<String, Fail> {
     let text = match read {
         Ok(size) => format!(in alloc; "ok {size}")?,
         Err(refusal) => match refusal.detail {
@@ -192,13 +193,13 @@ fn answers<R: Abort + AllocGlobal>(rt: &R, case: &str) -> Result<(), Fail> {
     let (input, answer) = case.split_once(": ").ok_or("case")?;
     let (reader, hex) = input.split_once(' ').ok_or("reader")?;
     let bytes = bytes_of(rt.alloc(), hex)?;
-    let text = told(rt.alloc(), read_by(rt.alloc(), reader, bytes.as_slice()))?;
+    let text = result_text(rt.alloc(), read_by(rt.alloc(), reader, bytes.as_slice()))?;
     assert_eq!(rt; text.as_str(), answer, "{case}");
     Ok(())
 }
 
 #[test]
-fn structs_are_read_or_their_first_refusal_is_told(rt: HostRuntime) -> Result<(), Fail> {
+fn structs_are_read_or_their_first_refusal_is_reported(rt: HostRuntime) -> Result<(), Fail> {
     for case in CASES.lines() {
         answers(&rt, case)?;
     }

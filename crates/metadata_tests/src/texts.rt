@@ -1,3 +1,4 @@
+// The texts that `show_tree` prints for trees of the compact protocol.
 use pme_base::{Bytes, OutOfMemory};
 use std::alloc::Global;
 use std::process::Abort;
@@ -60,7 +61,7 @@ fn empties(alloc: Global) -> Result<TVal, OutOfMemory> {
     Ok(TVal::Struct(fields))
 }
 
-/// A struct with 31 structs around it, each in field 1.
+/// A struct inside 31 other structs, each the field 1 of the next.
 fn nested(alloc: Global) -> Result<TVal, OutOfMemory> {
     let mut value = TVal::Struct(TFields::new(alloc));
     for _depth in 0..31 {

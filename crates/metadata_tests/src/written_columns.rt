@@ -1,4 +1,4 @@
-// A footer of a column of each physical type, required and optional, and text, is read again as it was planned.
+// A footer with a column of each physical type, required and optional, and text columns is read back as planned.
 ghost use Rattle.std.specs.Prelude.{◌≤◌, length, IfOk};
 ghost use Rattle.std.specs.List.{All};
 ghost use Rattle.parquet_writing.specs.Fitting.{FitsKind, FitsColumn, FitsFooter};
@@ -26,7 +26,8 @@ fn kind_at(position: u8) -> ColumnKind
     }
 }
 
-/// The column of a number: two of each kind, the second optional, and then two of text. Its name is one letter.
+/// Column `number`: two of each physical type, the second of them optional, and then two text columns. Its name is
+/// one letter.
 fn column_at(alloc: Global, number: u8) -> Result<ColumnSpec, OutOfMemory>
     ensures { IfOk result (λ column. FitsColumn column) }
 {
@@ -84,7 +85,7 @@ fn count_of_same(file: &FileMeta, plan: &FooterPlan) -> u8 {
 }
 
 #[test]
-fn columns_of_each_kind_are_read_again(rt: HostRuntime) -> Result<(), Fail> {
+fn columns_of_each_type_are_read_back(rt: HostRuntime) -> Result<(), Fail> {
     let plan = columns_plan(rt.alloc())?;
     let written = write_file_meta(rt.alloc(), &plan)?;
     let (file, size) = read_file_meta(rt.alloc(), &Place::footer(), written.as_slice())?;

@@ -1,8 +1,9 @@
-// Structs against bytes that were worked out by hand, and the footer of a signed file that another program laid.
+// Written structs compared with bytes that were worked out by hand, and the footer of a signed file from another
+// writer.
 ghost use Rattle.std.specs.Prelude.{◌≡◌, ◌<◌, ◌≤◌, ◌+◌, pos, [], length, IfOk};
 ghost use Rattle.std.specs.List.{All};
 ghost use Rattle.thrift_compact.specs.Proper.{IsSmall};
-ghost use Rattle.parquet_writing.specs.Fitting.{AreFew, FitsKind, FitsAlgorithm, FitsColumn, FitsChunk, FitsGroup, FitsFooter};
+ghost use Rattle.parquet_writing.specs.Fitting.{FitsOptional, FitsKind, FitsAlgorithm, FitsColumn, FitsChunk, FitsGroup, FitsFooter};
 
 use parquet_meta::{
     AlgorithmMeta, ChunkCrypto, ColumnKind, ColumnSpec, DataHead, FlatSchema, FooterPlan,
@@ -55,7 +56,7 @@ fn algorithm(
     prefix: Option<Bytes>,
     unique: &[u8],
 ) -> Result<AlgorithmMeta, OutOfMemory>
-    requires { AreFew prefix × IsSmall (length unique.now) }
+    requires { FitsOptional prefix × IsSmall (length unique.now) }
     ensures { IfOk result (λ algorithm. FitsAlgorithm algorithm) }
 {
     let unique = Bytes::copy_of(alloc, unique)?;
@@ -68,7 +69,8 @@ fn algorithm(
 }
 
 fn id_chunk(alloc: Global) -> Result<WrittenChunk, OutOfMemory>
-    ensures { IfOk result (λ chunk. FitsChunk chunk × (chunk.uncompressed ≡ pos 49) × (chunk.stored ≡ pos 49)) }
+    ensures { IfOk result
+        (λ chunk. FitsChunk chunk × (chunk.uncompressed ≡ pos 49) × (chunk.stored ≡ pos 49)) }
 {
     let spec = id_spec(alloc)?;
     Ok(WrittenChunk {
@@ -84,7 +86,8 @@ fn id_chunk(alloc: Global) -> Result<WrittenChunk, OutOfMemory>
 }
 
 fn name_chunk(alloc: Global) -> Result<WrittenChunk, OutOfMemory>
-    ensures { IfOk result (λ chunk. FitsChunk chunk × (chunk.uncompressed ≡ pos 41) × (chunk.stored ≡ pos 105)) }
+    ensures { IfOk result
+        (λ chunk. FitsChunk chunk × (chunk.uncompressed ≡ pos 41) × (chunk.stored ≡ pos 105)) }
 {
     let spec = name_spec(alloc)?;
     let sealed =
@@ -103,7 +106,8 @@ fn name_chunk(alloc: Global) -> Result<WrittenChunk, OutOfMemory>
 }
 
 fn secret_chunk(alloc: Global) -> Result<WrittenChunk, OutOfMemory>
-    ensures { IfOk result (λ chunk. FitsChunk chunk × (chunk.uncompressed ≡ pos 37) × (chunk.stored ≡ pos 101)) }
+    ensures { IfOk result
+        (λ chunk. FitsChunk chunk × (chunk.uncompressed ≡ pos 37) × (chunk.stored ≡ pos 101)) }
 {
     let spec = secret_spec(alloc)?;
     let sealed =
@@ -149,7 +153,7 @@ fn groups(alloc: Global) -> Result<WrittenGroups, OutOfMemory>
     Ok(groups)
 }
 
-/// A file of four rows whose footer is signed.
+/// The plan of a file of four rows with a signed footer.
 fn signed_plan(alloc: Global) -> Result<FooterPlan, OutOfMemory>
     ensures { IfOk result (λ plan. FitsFooter plan) }
 {
@@ -167,7 +171,7 @@ fn signed_plan(alloc: Global) -> Result<FooterPlan, OutOfMemory>
     })
 }
 
-/// A file of no rows whose one column has values of 5 bytes.
+/// The plan of a file without rows, whose one column has values of 5 bytes.
 #[tactic(auto, using(crate::proofs::Plans::pushed))]
 fn empty_plan(alloc: Global) -> Result<FooterPlan, OutOfMemory>
     ensures { IfOk result (λ plan. FitsFooter plan) }
@@ -199,7 +203,7 @@ fn writes_page_headers(rt: HostRuntime) -> Result<(), Fail> {
 }
 
 #[test]
-fn writes_what_stands_before_a_footer(rt: HostRuntime) -> Result<(), Fail> {
+fn writes_file_crypto_metadata(rt: HostRuntime) -> Result<(), Fail> {
     let algorithm = algorithm(rt.alloc(), None, b"\0\x01\x02\x03\x04\x05\x06\x07")?;
     let written = write_file_crypto(rt.alloc(), &algorithm, b"kf")?;
     let spelling = b"\x1c\x1c\x28\x08\0\x01\x02\x03\x04\x05\x06\x07\0\0\x18\x02kf\0".as_slice();

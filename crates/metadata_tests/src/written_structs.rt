@@ -1,3 +1,4 @@
+// Structs that the writer of the compact protocol writes, against bytes that were worked out by hand.
 ghost use Rattle.std.specs.Prelude.{◌<◌};
 
 use pme_base::{Bytes, OutOfMemory};
@@ -19,7 +20,7 @@ fn file_crypto_metadata(alloc: Global) -> Result<Bytes, OutOfMemory> {
     Ok(writer.finish())
 }
 
-/// {1: 0, 2: 16, 3: 16, 5: {1: 4, 2: 0, 3: 3, 4: 3}}, all i32
+/// {1: 0, 2: 16, 3: 16, 5: {1: 4, 2: 0, 3: 3, 4: 3}}, all of type i32
 fn page_header(alloc: Global) -> Result<Bytes, OutOfMemory> {
     let mut writer = Writer::new(alloc);
     writer.struct_begin()?;
@@ -80,7 +81,7 @@ fn list_of_structs(alloc: Global) -> Result<Bytes, OutOfMemory> {
     Ok(writer.finish())
 }
 
-/// {1: [], 2: [], 3: []}, of i32, booleans and structs
+/// {1: [], 2: [], 3: []}, empty lists of i32, booleans and structs
 fn empty_lists(alloc: Global) -> Result<Bytes, OutOfMemory> {
     let mut writer = Writer::new(alloc);
     writer.struct_begin()?;

@@ -1,4 +1,4 @@
--- The associated data of a file's modules (Parquet Modular Encryption, "AAD suffixes").
+-- The associated data of the modules in a file (Parquet Modular Encryption, "AAD suffixes").
 use Rattle.std.specs.Prelude.{◌≡◌, ◌≢◌, ℕ, ◌^◌, ◌<◌, List, [], ◌∷◌, ◌++◌, length}
 use Rattle.std.specs.Int.{w16, to_le_bytes}
 use Rattle.pme_base.specs.declared.place.Place.{Place}
@@ -11,7 +11,7 @@ IsModuleKind File = ⊥
 IsModuleKind Loose = ⊥
 IsModuleKind _ = Unit {0}
 
--- the module's type; a kind that holds no module has none, and 0 stands there
+-- the type byte of a module; 0 for the two kinds of place that hold no module
 abbrev pub type_byte : PlaceKind → ℕ
 type_byte Footer = 0
 type_byte ColumnMetaData = 1
@@ -24,7 +24,7 @@ type_byte OffsetIndex = 7
 type_byte File = 0
 type_byte Loose = 0
 
--- the ordinals that a kind has, each in two bytes, little-endian
+-- the ordinals of a module of this kind, each in two bytes, little-endian
 abbrev pub ordinals : PlaceKind → ℕ → ℕ → ℕ → List ℕ
 ordinals File _ _ _ = []
 ordinals Loose _ _ _ = []
@@ -33,14 +33,15 @@ ordinals DataPage row_group column page = to_le_bytes w16 row_group ++ to_le_byt
 ordinals DataPageHeader row_group column page = to_le_bytes w16 row_group ++ to_le_bytes w16 column ++ to_le_bytes w16 page
 ordinals _ row_group column _ = to_le_bytes w16 row_group ++ to_le_bytes w16 column
 
+-- the AAD suffix of the module at a place
 abbrev pub suffix : Place → List ℕ
 suffix place = type_byte place.kind ∷ ordinals place.kind place.row_group place.column place.page
 
--- of the module at a place, in a file whose own part is `file`
+-- the associated data of the module at a place, where `file` is the prefix and the unique bytes of the file
 abbrev pub aad : List ℕ → Place → List ℕ
 aad file place = file ++ suffix place
 
--- a kind has these ordinals: they fit two bytes, and those that it doesn't use are 0
+-- valid ordinals for a kind of place: each fits in two bytes, and ordinals that the kind doesn't use are 0
 abbrev pub HasOrdinals : PlaceKind → ℕ → ℕ → ℕ → Type 0
 HasOrdinals File _ _ _ = ⊥
 HasOrdinals Loose _ _ _ = ⊥
@@ -49,14 +50,14 @@ HasOrdinals DataPage row_group column page = (row_group < 2 ^ 16) × (column < 2
 HasOrdinals DataPageHeader row_group column page = (row_group < 2 ^ 16) × (column < 2 ^ 16) × (page < 2 ^ 16)
 HasOrdinals _ row_group column page = (row_group < 2 ^ 16) × (column < 2 ^ 16) × (page ≡ 0)
 
--- a place of a module in a file
+-- a place that holds a module, with valid ordinals
 abbrev pub IsModulePlace : Place → Type 0
 IsModulePlace place = HasOrdinals place.kind place.row_group place.column place.page
 
--- distinct places of one file have distinct associated data
+-- different places in one file have different associated data
 abbrev pub DistinctPlaces : Type 0
 DistinctPlaces = (file : List ℕ) (p q : Place) → IsModulePlace p → IsModulePlace q → aad file p ≡ aad file q → p ≡ q
 
--- two files with one prefix and different uniques of one length share no associated data
+-- modules of two files with the same prefix and different unique bytes of equal length have different associated data
 abbrev pub DistinctFiles : Type 0
 DistinctFiles = (prefix u v : List ℕ) (p q : Place) → length u ≡ length v → u ≢ v → aad (prefix ++ u) p ≢ aad (prefix ++ v) q

@@ -1,5 +1,5 @@
-// The associated data that ties a sealed module to its place of a file (Parquet Modular Encryption, "AAD
-// suffixes"): the file's own part, and after it a suffix that tells the module's type and its ordinals.
+//! The associated data that binds an encrypted module to its place in a file (Parquet Modular Encryption, "AAD
+//! suffixes"): the prefix and unique bytes of the file, then a suffix with the module's type and ordinals.
 #![tactic(auto)]
 
 ghost use Rattle.module_aad.specs.Aad.{DistinctPlaces, DistinctFiles};
@@ -9,8 +9,8 @@ mod suffix;
 
 pub use file_aad::{AadRefusal, FileAad};
 
-/// The laws that no two modules have one associated data: two places of a file, and two files whose uniques
-/// differ and have one length, under one prefix.
+/// Different modules have different associated data: two places in one file, and any places in two files that have the
+/// same prefix and different unique bytes of equal length.
 pub fn distinct_modules()
     ensures places { DistinctPlaces }
     ensures files { DistinctFiles }

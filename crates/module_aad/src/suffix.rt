@@ -1,10 +1,10 @@
-// What the associated data tells of a module's place.
+// The AAD suffix: the type and the ordinals of a module.
 ghost use Rattle.std.specs.Prelude.{◌≡◌, ◌≤◌, length, take};
 ghost use Rattle.module_aad.specs.Aad.{IsModuleKind, type_byte, suffix as suffix_of};
 
 use pme_base::{Place, PlaceKind};
 
-// The suffix at the front of seven bytes, and its length.
+// The suffix for a place, at the front of seven bytes, and its length.
 pub(crate) fn suffix(place: &Place) -> ([u8; 7], usize)
     requires { IsModuleKind place.now.kind }
     ensures long { result.1 ≡ length (suffix_of place.now) }
@@ -22,6 +22,7 @@ pub(crate) fn suffix(place: &Place) -> ([u8; 7], usize)
     ([module_type(place.kind), r0, r1, c0, c1, p0, p1], length)
 }
 
+// The type of a module, as a byte.
 fn module_type(kind: PlaceKind) -> u8
     requires { IsModuleKind kind }
     ensures { result ≡ type_byte kind }

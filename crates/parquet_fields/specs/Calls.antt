@@ -1,5 +1,5 @@
--- What the calls of this crate answer: a struct at the front of bytes, or its first refusal. Faults of the compact
--- protocol come before all others.
+-- The results of this crate's calls: the struct at the start of the bytes, or its first refusal. Errors of the
+-- compact protocol come before refused fields.
 use Rattle.std.specs.Prelude.{ℕ, ◌-◌, List, length, Option, Result, Ok, Err}
 use Rattle.pme_base.specs.declared.place.Place.{Place}
 use Rattle.pme_base.specs.declared.refusal.Cause.TheVariants.{BadThrift}
@@ -17,17 +17,18 @@ use Rattle.parquet_types.specs.FieldRefusals.{field_refusal}
 use Rattle.parquet_fields.specs.Fields.{Checked}
 use Rattle.parquet_fields.specs.Structs.{file_crypto, signing, column_meta, page_head}
 
--- a checked value, its refusal told at a place
+-- A judged value, with its refusal at a place.
 abbrev pub at_place : {X : Type 0} → Place → Checked X → Result X Refusal
 at_place place (Ok x) = Ok x
 at_place place (Err r) = Err (field_refusal place r)
 
--- a reading of so many bytes, its faults told at a place and by their offsets
+-- The result of reading from `size` bytes, with an error of the compact protocol at a place and at its offset in
+-- bytes.
 abbrev pub read_at_place : {X : Type 0} → Place → ℕ → Result (X × List ℕ) Fault → Result (X × ℕ) Refusal
 read_at_place place size (Ok read) = Ok (read.0, size - length read.1)
 read_at_place place size (Err fault) = Err (refusal_at BadThrift place (size - fault.1) (Thrift fault.0))
 
--- the struct at the front of these bytes, by its fields, and how many bytes it takes
+-- The struct at the start of the bytes, judged by its fields, and its size in bytes.
 abbrev pub struct_at : {X : Type 0} → Place → (Fields → Checked X) → List ℕ → Result (X × ℕ) Refusal
 struct_at place checked bytes = do
   read ← read_at_place place (length bytes) (whole_struct bytes)
@@ -48,7 +49,7 @@ file_crypto_at place bytes = struct_at place file_crypto bytes
 abbrev pub signing_at : Place → List ℕ → Result ((Option AlgorithmMeta × Option (List ℕ)) × ℕ) Refusal
 signing_at place bytes = struct_at place signing bytes
 
--- the same as three values
+-- The result of `signing_at` as one tuple of three.
 abbrev pub split_signing : Result ((Option AlgorithmMeta × Option (List ℕ)) × ℕ) Refusal → Result (Option AlgorithmMeta × Option (List ℕ) × ℕ) Refusal
 split_signing (Ok read) = Ok (read.0.0, read.0.1, read.1)
 split_signing (Err refusal) = Err refusal

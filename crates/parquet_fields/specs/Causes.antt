@@ -10,13 +10,13 @@ use Rattle.thrift_compact.specs.Reading.{same_id}
 use Rattle.thrift_compact.specs.Tree.{Tree, truth, int16, int32, int64, binary, list, struct, Trees, no_trees, tree, Fields, no_fields, field}
 use Rattle.parquet_types.specs.declared.file_meta.AlgorithmMeta.{AlgorithmMeta}
 use Rattle.parquet_fields.specs.declared.algorithm.AesGcm.{AesGcm}
-use Rattle.parquet_types.specs.declared.footer_parts.ColumnCrypto.{ColumnCrypto}
-use Rattle.parquet_fields.specs.declared.met.Met.{Met}
-use Rattle.parquet_fields.specs.declared.met.Met.TheVariants.{Absent, Wrong, Refused, Is}
+use Rattle.parquet_types.specs.declared.raw_footer.ColumnCrypto.{ColumnCrypto}
+use Rattle.parquet_fields.specs.declared.field_state.FieldState.{FieldState}
+use Rattle.parquet_fields.specs.declared.field_state.FieldState.TheVariants.{Absent, WrongType, Refused, Value}
 use Rattle.parquet_fields.specs.declared.page_parts.DataCounts.{DataCounts}
 use Rattle.parquet_fields.specs.declared.page_parts.DictionaryCounts.{DictionaryCounts}
 use Rattle.parquet_fields.specs.Fields.{Checked, binary_of, truth_of, int16_of, int32_of, int64_of, of_checked, struct_of, onto_items, items_of, list_of, pick, under, optional, needed}
-use Rattle.parquet_fields.specs.Structs.{aes_gcm, one_algorithm, algorithm, file_crypto, schema_element, column_meta, column_key, footer_key, one_key, column_crypto, column_chunk, row_group, file_fields, signing_with, signing, data_counts, dictionary_counts, data_page, dictionary_page, page_of_type, page_head}
+use Rattle.parquet_fields.specs.Structs.{aes_gcm, one_algorithm, algorithm, file_crypto, schema_element, column_meta, column_key, footer_key, one_key, column_crypto, column_chunk, row_group, raw_file_meta, signing_with, signing, data_counts, dictionary_counts, data_page, dictionary_page, page_of_type, page_head}
 
 -- the causes of a field's refusal, and those of a struct's
 abbrev pub is_field_cause : Cause → Bool
@@ -34,11 +34,11 @@ abbrev pub CheckedCause : {X : Type 0} → Checked X → Type 0
 CheckedCause (Ok x) = Unit {0}
 CheckedCause (Err r) = is_field_cause r.cause ≡ true
 
-abbrev pub MetCause : {X : Type 0} → Met X → Type 0
+abbrev pub MetCause : {X : Type 0} → FieldState X → Type 0
 MetCause (Refused r) = is_field_cause r.cause ≡ true
 MetCause _ = Unit {0}
 
--- values
+-- Values.
 binary_causes : (t : Tree) → MetCause (binary_of t)
 binary_causes (binary bytes) = tt
 binary_causes _ = tt
@@ -67,29 +67,29 @@ struct_causes : {X : Type 0} (checked : Fields → Checked X) → ((fs : Fields)
 struct_causes checked causes (struct fs) = of_checked_causes (checked fs) (causes fs)
 struct_causes checked causes _ = tt
 
-onto_causes : {X : Type 0} (x : Met X) (xs : Met (List X)) → MetCause x → MetCause xs → MetCause (onto_items x xs)
-onto_causes (Is x) (Is xs) one others = tt
-onto_causes (Is x) Absent one others = tt
-onto_causes (Is x) Wrong one others = tt
-onto_causes (Is x) (Refused r) one others = others
+onto_causes : {X : Type 0} (x : FieldState X) (xs : FieldState (List X)) → MetCause x → MetCause xs → MetCause (onto_items x xs)
+onto_causes (Value x) (Value xs) one others = tt
+onto_causes (Value x) Absent one others = tt
+onto_causes (Value x) WrongType one others = tt
+onto_causes (Value x) (Refused r) one others = others
 onto_causes (Refused r) xs one others = one
 onto_causes Absent xs one others = tt
-onto_causes Wrong xs one others = tt
+onto_causes WrongType xs one others = tt
 
-items_causes : {X : Type 0} (item : Tree → Met X) → ((t : Tree) → MetCause (item t)) → (ts : Trees) → MetCause (items_of item ts)
+items_causes : {X : Type 0} (item : Tree → FieldState X) → ((t : Tree) → MetCause (item t)) → (ts : Trees) → MetCause (items_of item ts)
 items_causes item causes no_trees = tt
 items_causes item causes (tree t ts) = onto_causes (item t) (items_of item ts) (causes t) (items_causes item causes ts)
 
-list_causes : {X : Type 0} (item : Tree → Met X) → ((t : Tree) → MetCause (item t)) → (t : Tree) → MetCause (list_of item t)
+list_causes : {X : Type 0} (item : Tree → FieldState X) → ((t : Tree) → MetCause (item t)) → (t : Tree) → MetCause (list_of item t)
 list_causes item causes (list ts) = items_causes item causes ts
 list_causes item causes _ = tt
 
--- fields
-one_of_causes : {X : Type 0} (b : Bool) (x y : Met X) → MetCause x → MetCause y → MetCause (if b then x else y)
+-- Fields.
+one_of_causes : {X : Type 0} (b : Bool) (x y : FieldState X) → MetCause x → MetCause y → MetCause (if b then x else y)
 one_of_causes true x y one other = one
 one_of_causes false x y one other = other
 
-under_causes : {X : Type 0} (value : Tree → Met X) (number : ℤ) (before : Met X) (fs : Fields) → ((t : Tree) → MetCause (value t)) → MetCause before → MetCause (under value number before fs)
+under_causes : {X : Type 0} (value : Tree → FieldState X) (number : ℤ) (before : FieldState X) (fs : Fields) → ((t : Tree) → MetCause (value t)) → MetCause before → MetCause (under value number before fs)
 under_causes value number before no_fields causes first = first
 under_causes value number before (field id t fs) causes first = under_causes value number (pick value number id t before) fs causes (one_of_causes (same_id id number) (value t) before (causes t) first)
 
@@ -97,27 +97,27 @@ step_causes : {X Y : Type 0} (r : Checked X) (next : X → Checked Y) → Checke
 step_causes (Ok x) next one others = others x
 step_causes (Err r) next one others = one
 
-optional_causes : {X : Type 0} (called : StructName) (number : ℤ) (met : Met X) → MetCause met → CheckedCause (optional called number met)
+optional_causes : {X : Type 0} (called : StructName) (number : ℤ) (state : FieldState X) → MetCause state → CheckedCause (optional called number state)
 optional_causes called number Absent causes = tt
-optional_causes called number Wrong causes = refl
+optional_causes called number WrongType causes = refl
 optional_causes called number (Refused r) causes = causes
-optional_causes called number (Is x) causes = tt
+optional_causes called number (Value x) causes = tt
 
-needed_causes : {X : Type 0} (called : StructName) (number : ℤ) (met : Met X) → MetCause met → CheckedCause (needed called number met)
+needed_causes : {X : Type 0} (called : StructName) (number : ℤ) (state : FieldState X) → MetCause state → CheckedCause (needed called number state)
 needed_causes called number Absent causes = refl
-needed_causes called number Wrong causes = refl
+needed_causes called number WrongType causes = refl
 needed_causes called number (Refused r) causes = causes
-needed_causes called number (Is x) causes = tt
+needed_causes called number (Value x) causes = tt
 
-optional_then : {X Y : Type 0} (called : StructName) (number : ℤ) (value : Tree → Met X) (fs : Fields) (next : Option X → Checked Y) → ((t : Tree) → MetCause (value t)) → ((x : Option X) → CheckedCause (next x)) → CheckedCause (optional called number (under value number Absent fs) >>= next)
+optional_then : {X Y : Type 0} (called : StructName) (number : ℤ) (value : Tree → FieldState X) (fs : Fields) (next : Option X → Checked Y) → ((t : Tree) → MetCause (value t)) → ((x : Option X) → CheckedCause (next x)) → CheckedCause (optional called number (under value number Absent fs) >>= next)
 optional_then called number value fs next causes others =
     step_causes (optional called number (under value number Absent fs)) next (optional_causes called number (under value number Absent fs) (under_causes value number Absent fs causes tt)) others
 
-needed_then : {X Y : Type 0} (called : StructName) (number : ℤ) (value : Tree → Met X) (fs : Fields) (next : X → Checked Y) → ((t : Tree) → MetCause (value t)) → ((x : X) → CheckedCause (next x)) → CheckedCause (needed called number (under value number Absent fs) >>= next)
+needed_then : {X Y : Type 0} (called : StructName) (number : ℤ) (value : Tree → FieldState X) (fs : Fields) (next : X → Checked Y) → ((t : Tree) → MetCause (value t)) → ((x : X) → CheckedCause (next x)) → CheckedCause (needed called number (under value number Absent fs) >>= next)
 needed_then called number value fs next causes others =
     step_causes (needed called number (under value number Absent fs)) next (needed_causes called number (under value number Absent fs) (under_causes value number Absent fs causes tt)) others
 
--- structs
+-- Structs.
 one_algorithm_causes : (gcm ctr : Option AesGcm) → CheckedCause (one_algorithm gcm ctr)
 one_algorithm_causes None None = refl
 one_algorithm_causes (Some gcm) None = tt
@@ -217,8 +217,8 @@ row_group_causes fs =
     optional_then name.RowGroup (pos 7) int16_of fs _ int16_causes (λ x2.
     tt)))
 
-pub file_fields_causes : (fs : Fields) → CheckedCause (file_fields fs)
-file_fields_causes fs =
+pub raw_file_meta_causes : (fs : Fields) → CheckedCause (raw_file_meta fs)
+raw_file_meta_causes fs =
     needed_then name.FileMetaData (pos 2) (list_of (struct_of schema_element)) fs _ (list_causes (struct_of schema_element) (struct_causes schema_element schema_element_causes)) (λ x0.
     needed_then name.FileMetaData (pos 3) int64_of fs _ int64_causes (λ x1.
     needed_then name.FileMetaData (pos 4) (list_of (struct_of row_group)) fs _ (list_causes (struct_of row_group) (struct_causes row_group row_group_causes)) (λ x2.

@@ -1,7 +1,5 @@
 pub mod Fields
 pub mod Structs
-pub mod Meets
-pub mod Met
+pub mod Reads
 pub mod Causes
 pub mod Calls
-pub mod Answered

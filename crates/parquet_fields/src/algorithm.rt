@@ -1,18 +1,17 @@
-// AesGcmV1, AesGcmCtrV1 and the union of both.
+// Reads AesGcmV1, AesGcmCtrV1 and the union EncryptionAlgorithm.
 ghost use Rattle.std.specs.Prelude.{◌≡◌, refl};
-ghost use Rattle.parquet_fields.specs.Met.{aes_gcm_none, aes_gcm_step, aes_gcm_after, algorithm_none, algorithm_step, algorithm_after};
 ghost use Rattle.parquet_fields.specs.Causes.{aes_gcm_causes, algorithm_causes};
-ghost use Rattle.parquet_fields.specs.Structs.{aes_gcm_of, algorithm_of, algorithm_with, one_algorithm};
+ghost use Rattle.parquet_fields.specs.Structs.{aes_gcm_none, aes_gcm_after, algorithm_none, algorithm_after, aes_gcm_of, algorithm_of, algorithm_with, one_algorithm};
 
-use crate::met::Met;
-use crate::met_fields::{MetFields, struct_field};
+use crate::field_state::FieldState;
+use crate::struct_fields::{StructFields, struct_field};
 use crate::values::{binary_field, truth_field};
 use parquet_types::{AlgorithmMeta, FieldRefusal};
 use pme_base::{Bytes, Cause, StructName};
 use std::alloc::Global;
 use thrift_compact::{FieldHead, Reader, ThriftRefusal};
 
-/// The fields 1 to 3 of AesGcmV1 and AesGcmCtrV1.
+/// AesGcmV1 or AesGcmCtrV1, which have the same three fields.
 #[derive(Debug, Drop)]
 pub struct AesGcm {
     pub prefix: Option<Bytes>,
@@ -20,40 +19,38 @@ pub struct AesGcm {
     pub supply: bool,
 }
 
-/// The fields of AesGcmV1 and AesGcmCtrV1.
+/// The field states of AesGcmV1 and AesGcmCtrV1.
 #[derive(Drop)]
-pub(crate) struct AesGcmMet {
-    prefix: Met<Bytes>,
-    unique: Met<Bytes>,
-    supply: Met<bool>,
+pub(crate) struct AesGcmFields {
+    prefix: FieldState<Bytes>,
+    unique: FieldState<Bytes>,
+    supply: FieldState<bool>,
 }
 
-impl MetFields for AesGcmMet {
+impl StructFields for AesGcmFields {
     type Made = AesGcm;
 
     ghost none = { aes_gcm_none };
 
-    ghost step = { aes_gcm_step };
-
     ghost after = { aes_gcm_after };
 
-    ghost judged = { λ met. aes_gcm_of met.prefix met.unique met.supply };
+    ghost judged = { aes_gcm_of };
 
-    ghost at_end = { λ met. refl };
+    ghost at_end = { λ known. refl };
 
-    ghost at_field = { λ met id t fs. refl };
+    ghost at_field = { λ known id t fs. refl };
 
     ghost causes = { aes_gcm_causes };
 
-    fn none() -> AesGcmMet {
-        AesGcmMet {
-            prefix: Met::Absent,
-            unique: Met::Absent,
-            supply: Met::Absent,
+    fn none() -> AesGcmFields {
+        AesGcmFields {
+            prefix: FieldState::Absent,
+            unique: FieldState::Absent,
+            supply: FieldState::Absent,
         }
     }
 
-    fn take(
+    fn read_field(
         &mut self,
         alloc: Global,
         reader: &mut Reader<'_>,
@@ -80,46 +77,44 @@ impl MetFields for AesGcmMet {
     }
 }
 
-/// The fields of EncryptionAlgorithm.
+/// The field states of the union EncryptionAlgorithm.
 #[derive(Drop)]
-pub(crate) struct AlgorithmMet {
-    gcm: Met<AesGcm>,
-    ctr: Met<AesGcm>,
+pub(crate) struct AlgorithmFields {
+    gcm: FieldState<AesGcm>,
+    ctr: FieldState<AesGcm>,
 }
 
-impl MetFields for AlgorithmMet {
+impl StructFields for AlgorithmFields {
     type Made = AlgorithmMeta;
 
     ghost none = { algorithm_none };
 
-    ghost step = { algorithm_step };
-
     ghost after = { algorithm_after };
 
-    ghost judged = { λ met. algorithm_of met.gcm met.ctr };
+    ghost judged = { algorithm_of };
 
-    ghost at_end = { λ met. refl };
+    ghost at_end = { λ known. refl };
 
-    ghost at_field = { λ met id t fs. refl };
+    ghost at_field = { λ known id t fs. refl };
 
     ghost causes = { algorithm_causes };
 
-    fn none() -> AlgorithmMet {
-        AlgorithmMet {
-            gcm: Met::Absent,
-            ctr: Met::Absent,
+    fn none() -> AlgorithmFields {
+        AlgorithmFields {
+            gcm: FieldState::Absent,
+            ctr: FieldState::Absent,
         }
     }
 
-    fn take(
+    fn read_field(
         &mut self,
         alloc: Global,
         reader: &mut Reader<'_>,
         head: FieldHead,
     ) -> Result<(), ThriftRefusal> {
         match head.id {
-            1 => self.gcm = struct_field::<AesGcmMet>(alloc, reader, head.kind)?,
-            2 => self.ctr = struct_field::<AesGcmMet>(alloc, reader, head.kind)?,
+            1 => self.gcm = struct_field::<AesGcmFields>(alloc, reader, head.kind)?,
+            2 => self.ctr = struct_field::<AesGcmFields>(alloc, reader, head.kind)?,
             _ => reader.skip(head.kind)?,
         }
         Ok(())

@@ -1,62 +1,60 @@
-// A column chunk: its metadata, and the union of its keys.
+// Reads a ColumnChunk, its ColumnMetaData and its ColumnCryptoMetaData.
 ghost use Rattle.std.specs.Prelude.{◌≡◌, refl, Ok};
-ghost use Rattle.parquet_fields.specs.Answered.{HasStructCause};
+ghost use Rattle.pme_base.specs.Causes.{CausedBy};
+ghost use Rattle.parquet_fields.specs.Causes.{is_struct_cause};
 ghost use Rattle.parquet_fields.specs.Calls.{column_meta_at};
 ghost use Rattle.pme_base.specs.Steps.{Answers, Quiet};
-ghost use Rattle.parquet_types.specs.declared.footer_parts.ColumnCrypto.TheVariants as crypto;
+ghost use Rattle.parquet_types.specs.declared.raw_footer.ColumnCrypto.TheVariants as crypto;
 ghost use Rattle.parquet_fields.specs.Causes.{column_meta_causes, column_key_causes, footer_key_causes, column_crypto_causes, column_chunk_causes};
-ghost use Rattle.parquet_fields.specs.Met.{column_meta_none, column_meta_step, column_meta_after, column_key_none, column_key_step, column_key_after, footer_key_none, footer_key_step, footer_key_after, column_crypto_none, column_crypto_step, column_crypto_after, column_chunk_none, column_chunk_step, column_chunk_after};
-ghost use Rattle.parquet_fields.specs.Structs.{column_meta_of, column_key_of, column_crypto_of, column_chunk_of, one_key};
+ghost use Rattle.parquet_fields.specs.Structs.{column_meta_none, column_meta_after, column_key_none, column_key_after, footer_key_none, footer_key_after, column_crypto_none, column_crypto_after, column_chunk_none, column_chunk_after, column_meta_of, column_key_of, column_crypto_of, column_chunk_of, one_key};
 
+use crate::field_state::FieldState;
 use crate::items::{Item, names_field};
-use crate::met::Met;
-use crate::met_fields::{MetFields, read_front, struct_field, struct_item};
+use crate::struct_fields::{StructFields, read_front, struct_field, struct_item};
 use crate::values::{binary_field, int32_field, int64_field};
 use parquet_types::{ColumnChunk, ColumnCrypto, ColumnMeta, FieldRefusal, PathList};
 use pme_base::{Bytes, Cause, Place, Refusal, StructName};
 use std::alloc::Global;
 use thrift_compact::{FieldHead, Reader, TKind, ThriftRefusal};
 
-/// The fields of ColumnMetaData.
+/// The field states of ColumnMetaData.
 #[derive(Drop)]
-pub(crate) struct ColumnMetaMet {
-    kind: Met<i32>,
-    path: Met<PathList>,
-    codec: Met<i32>,
-    num_values: Met<i64>,
-    data_page_offset: Met<i64>,
-    dictionary_page_offset: Met<i64>,
+pub(crate) struct ColumnMetaFields {
+    kind: FieldState<i32>,
+    path: FieldState<PathList>,
+    codec: FieldState<i32>,
+    num_values: FieldState<i64>,
+    data_page_offset: FieldState<i64>,
+    dictionary_page_offset: FieldState<i64>,
 }
 
-impl MetFields for ColumnMetaMet {
+impl StructFields for ColumnMetaFields {
     type Made = ColumnMeta;
 
     ghost none = { column_meta_none };
 
-    ghost step = { column_meta_step };
-
     ghost after = { column_meta_after };
 
-    ghost judged = { λ met. column_meta_of met.kind met.path met.codec met.num_values met.data_page_offset met.dictionary_page_offset };
+    ghost judged = { column_meta_of };
 
-    ghost at_end = { λ met. refl };
+    ghost at_end = { λ known. refl };
 
-    ghost at_field = { λ met id t fs. refl };
+    ghost at_field = { λ known id t fs. refl };
 
     ghost causes = { column_meta_causes };
 
-    fn none() -> ColumnMetaMet {
-        ColumnMetaMet {
-            kind: Met::Absent,
-            path: Met::Absent,
-            codec: Met::Absent,
-            num_values: Met::Absent,
-            data_page_offset: Met::Absent,
-            dictionary_page_offset: Met::Absent,
+    fn none() -> ColumnMetaFields {
+        ColumnMetaFields {
+            kind: FieldState::Absent,
+            path: FieldState::Absent,
+            codec: FieldState::Absent,
+            num_values: FieldState::Absent,
+            data_page_offset: FieldState::Absent,
+            dictionary_page_offset: FieldState::Absent,
         }
     }
 
-    fn take(
+    fn read_field(
         &mut self,
         alloc: Global,
         reader: &mut Reader<'_>,
@@ -94,38 +92,36 @@ impl MetFields for ColumnMetaMet {
     }
 }
 
-/// The fields of EncryptionWithColumnKey.
+/// The field states of EncryptionWithColumnKey.
 #[derive(Drop)]
-pub(crate) struct ColumnKeyMet {
-    path: Met<PathList>,
-    key_metadata: Met<Bytes>,
+pub(crate) struct ColumnKeyFields {
+    path: FieldState<PathList>,
+    key_metadata: FieldState<Bytes>,
 }
 
-impl MetFields for ColumnKeyMet {
+impl StructFields for ColumnKeyFields {
     type Made = ColumnCrypto;
 
     ghost none = { column_key_none };
 
-    ghost step = { column_key_step };
-
     ghost after = { column_key_after };
 
-    ghost judged = { λ met. column_key_of met.path met.key_metadata };
+    ghost judged = { column_key_of };
 
-    ghost at_end = { λ met. refl };
+    ghost at_end = { λ known. refl };
 
-    ghost at_field = { λ met id t fs. refl };
+    ghost at_field = { λ known id t fs. refl };
 
     ghost causes = { column_key_causes };
 
-    fn none() -> ColumnKeyMet {
-        ColumnKeyMet {
-            path: Met::Absent,
-            key_metadata: Met::Absent,
+    fn none() -> ColumnKeyFields {
+        ColumnKeyFields {
+            path: FieldState::Absent,
+            key_metadata: FieldState::Absent,
         }
     }
 
-    fn take(
+    fn read_field(
         &mut self,
         alloc: Global,
         reader: &mut Reader<'_>,
@@ -148,32 +144,30 @@ impl MetFields for ColumnKeyMet {
     }
 }
 
-/// The fields of EncryptionWithFooterKey.
+/// EncryptionWithFooterKey has no fields.
 #[derive(Drop)]
-pub(crate) struct FooterKeyMet {}
+pub(crate) struct FooterKeyFields {}
 
-impl MetFields for FooterKeyMet {
+impl StructFields for FooterKeyFields {
     type Made = ColumnCrypto;
 
     ghost none = { footer_key_none };
 
-    ghost step = { footer_key_step };
-
     ghost after = { footer_key_after };
 
-    ghost judged = { λ met. Ok crypto.FooterKey };
+    ghost judged = { λ known. Ok crypto.FooterKey };
 
-    ghost at_end = { λ met. refl };
+    ghost at_end = { λ known. refl };
 
-    ghost at_field = { λ met id t fs. refl };
+    ghost at_field = { λ known id t fs. refl };
 
     ghost causes = { footer_key_causes };
 
-    fn none() -> FooterKeyMet {
-        FooterKeyMet {}
+    fn none() -> FooterKeyFields {
+        FooterKeyFields {}
     }
 
-    fn take(
+    fn read_field(
         &mut self,
         alloc: Global,
         reader: &mut Reader<'_>,
@@ -190,46 +184,44 @@ impl MetFields for FooterKeyMet {
     }
 }
 
-/// The fields of ColumnCryptoMetaData.
+/// The field states of the union ColumnCryptoMetaData.
 #[derive(Drop)]
-pub(crate) struct ColumnCryptoMet {
-    footer: Met<ColumnCrypto>,
-    column: Met<ColumnCrypto>,
+pub(crate) struct ColumnCryptoFields {
+    footer: FieldState<ColumnCrypto>,
+    column: FieldState<ColumnCrypto>,
 }
 
-impl MetFields for ColumnCryptoMet {
+impl StructFields for ColumnCryptoFields {
     type Made = ColumnCrypto;
 
     ghost none = { column_crypto_none };
 
-    ghost step = { column_crypto_step };
-
     ghost after = { column_crypto_after };
 
-    ghost judged = { λ met. column_crypto_of met.footer met.column };
+    ghost judged = { column_crypto_of };
 
-    ghost at_end = { λ met. refl };
+    ghost at_end = { λ known. refl };
 
-    ghost at_field = { λ met id t fs. refl };
+    ghost at_field = { λ known id t fs. refl };
 
     ghost causes = { column_crypto_causes };
 
-    fn none() -> ColumnCryptoMet {
-        ColumnCryptoMet {
-            footer: Met::Absent,
-            column: Met::Absent,
+    fn none() -> ColumnCryptoFields {
+        ColumnCryptoFields {
+            footer: FieldState::Absent,
+            column: FieldState::Absent,
         }
     }
 
-    fn take(
+    fn read_field(
         &mut self,
         alloc: Global,
         reader: &mut Reader<'_>,
         head: FieldHead,
     ) -> Result<(), ThriftRefusal> {
         match head.id {
-            1 => self.footer = struct_field::<FooterKeyMet>(alloc, reader, head.kind)?,
-            2 => self.column = struct_field::<ColumnKeyMet>(alloc, reader, head.kind)?,
+            1 => self.footer = struct_field::<FooterKeyFields>(alloc, reader, head.kind)?,
+            2 => self.column = struct_field::<ColumnKeyFields>(alloc, reader, head.kind)?,
             _ => reader.skip(head.kind)?,
         }
         Ok(())
@@ -264,42 +256,40 @@ fn one_of_both(
     }
 }
 
-/// The fields of ColumnChunk.
+/// The field states of ColumnChunk.
 #[derive(Drop)]
-pub(crate) struct ColumnChunkMet {
-    file_path: Met<Bytes>,
-    plain_meta: Met<ColumnMeta>,
-    crypto: Met<ColumnCrypto>,
-    sealed_meta: Met<Bytes>,
+pub(crate) struct ColumnChunkFields {
+    file_path: FieldState<Bytes>,
+    plain_meta: FieldState<ColumnMeta>,
+    crypto: FieldState<ColumnCrypto>,
+    sealed_meta: FieldState<Bytes>,
 }
 
-impl MetFields for ColumnChunkMet {
+impl StructFields for ColumnChunkFields {
     type Made = ColumnChunk;
 
     ghost none = { column_chunk_none };
 
-    ghost step = { column_chunk_step };
-
     ghost after = { column_chunk_after };
 
-    ghost judged = { λ met. column_chunk_of met.file_path met.plain_meta met.crypto met.sealed_meta };
+    ghost judged = { column_chunk_of };
 
-    ghost at_end = { λ met. refl };
+    ghost at_end = { λ known. refl };
 
-    ghost at_field = { λ met id t fs. refl };
+    ghost at_field = { λ known id t fs. refl };
 
     ghost causes = { column_chunk_causes };
 
-    fn none() -> ColumnChunkMet {
-        ColumnChunkMet {
-            file_path: Met::Absent,
-            plain_meta: Met::Absent,
-            crypto: Met::Absent,
-            sealed_meta: Met::Absent,
+    fn none() -> ColumnChunkFields {
+        ColumnChunkFields {
+            file_path: FieldState::Absent,
+            plain_meta: FieldState::Absent,
+            crypto: FieldState::Absent,
+            sealed_meta: FieldState::Absent,
         }
     }
 
-    fn take(
+    fn read_field(
         &mut self,
         alloc: Global,
         reader: &mut Reader<'_>,
@@ -307,8 +297,8 @@ impl MetFields for ColumnChunkMet {
     ) -> Result<(), ThriftRefusal> {
         match head.id {
             1 => self.file_path = binary_field(alloc, reader, head.kind)?,
-            3 => self.plain_meta = struct_field::<ColumnMetaMet>(alloc, reader, head.kind)?,
-            8 => self.crypto = struct_field::<ColumnCryptoMet>(alloc, reader, head.kind)?,
+            3 => self.plain_meta = struct_field::<ColumnMetaFields>(alloc, reader, head.kind)?,
+            8 => self.crypto = struct_field::<ColumnCryptoFields>(alloc, reader, head.kind)?,
             9 => self.sealed_meta = binary_field(alloc, reader, head.kind)?,
             _ => reader.skip(head.kind)?,
         }
@@ -339,17 +329,18 @@ impl Item for ColumnChunk {
         alloc: Global,
         reader: &mut Reader<'_>,
         kind: TKind,
-    ) -> Result<Met<ColumnChunk>, ThriftRefusal> {
-        struct_item::<ColumnChunkMet>(alloc, reader, kind)
+    ) -> Result<FieldState<ColumnChunk>, ThriftRefusal> {
+        struct_item::<ColumnChunkFields>(alloc, reader, kind)
     }
 }
 
-/// Reads ColumnMetaData, the metadata of a column chunk. Refusals are at `place`; bytes after the struct are not read.
+/// Reads the ColumnMetaData at the start of `bytes`; bytes after the struct are ignored. Refusals are BadThrift,
+/// MissingField, BadField, Unsupported or OutOfMemory, all but the last at `place`.
 pub fn read_column_meta(alloc: Global, place: &Place, bytes: &[u8]) -> Result<ColumnMeta, Refusal>
     ensures answer { Answers result (column_meta_at place.now bytes.now) }
     ensures quiet { Quiet result }
-    ensures causes { HasStructCause result }
+    ensures causes { CausedBy is_struct_cause result }
 {
-    let (meta, _) = read_front::<ColumnMetaMet>(alloc, *place, bytes)?;
+    let (meta, _) = read_front::<ColumnMetaFields>(alloc, *place, bytes)?;
     Ok(meta)
 }

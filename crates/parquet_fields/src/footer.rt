@@ -1,65 +1,63 @@
-// A footer's schema, row groups and file metadata.
+// Reads FileMetaData with its SchemaElements and RowGroups.
 ghost use Rattle.std.specs.Prelude.{◌≡◌, refl};
-ghost use Rattle.parquet_fields.specs.Answered.{HasStructCause};
+ghost use Rattle.pme_base.specs.Causes.{CausedBy};
+ghost use Rattle.parquet_fields.specs.Causes.{is_struct_cause};
 ghost use Rattle.parquet_fields.specs.Calls.{struct_at};
 ghost use Rattle.pme_base.specs.Steps.{Answers, Quiet};
-ghost use Rattle.parquet_fields.specs.Causes.{schema_element_causes, row_group_causes, file_fields_causes};
+ghost use Rattle.parquet_fields.specs.Causes.{schema_element_causes, row_group_causes, raw_file_meta_causes};
 ghost use Rattle.parquet_fields.specs.Fields.{struct_of};
-ghost use Rattle.parquet_fields.specs.Met.{schema_element_none, schema_element_step, schema_element_after, row_group_none, row_group_step, row_group_after, file_fields_none, file_fields_step, file_fields_after};
-ghost use Rattle.parquet_fields.specs.Structs.{file_fields, schema_element, schema_element_of, row_group, row_group_of, file_fields_of};
+ghost use Rattle.parquet_fields.specs.Structs.{schema_element_none, schema_element_after, row_group_none, row_group_after, raw_file_meta_none, raw_file_meta_after, raw_file_meta, schema_element, schema_element_of, row_group, row_group_of, raw_file_meta_of};
 
-use crate::algorithm::AlgorithmMet;
+use crate::algorithm::AlgorithmFields;
+use crate::field_state::FieldState;
 use crate::items::{Item, list_field};
-use crate::met::Met;
-use crate::met_fields::{MetFields, read_front, struct_field, struct_item};
+use crate::struct_fields::{StructFields, read_front, struct_field, struct_item};
 use crate::values::{binary_field, int16_field, int32_field, int64_field};
 use parquet_types::{
-    AlgorithmMeta, ColumnChunk, FieldRefusal, FileFields, RowGroup, SchemaElement,
+    AlgorithmMeta, ColumnChunk, FieldRefusal, RawFileMeta, RowGroup, SchemaElement,
 };
 use pme_base::{Bytes, Place, Refusal, Sequence, StructName};
 use std::alloc::Global;
 use thrift_compact::{FieldHead, Reader, TKind, ThriftRefusal};
 
-/// The fields of SchemaElement.
+/// The field states of SchemaElement.
 #[derive(Drop)]
-pub(crate) struct SchemaElementMet {
-    kind: Met<i32>,
-    type_length: Met<i32>,
-    repetition: Met<i32>,
-    name: Met<Bytes>,
-    num_children: Met<i32>,
-    converted: Met<i32>,
+pub(crate) struct SchemaElementFields {
+    kind: FieldState<i32>,
+    type_length: FieldState<i32>,
+    repetition: FieldState<i32>,
+    name: FieldState<Bytes>,
+    num_children: FieldState<i32>,
+    converted: FieldState<i32>,
 }
 
-impl MetFields for SchemaElementMet {
+impl StructFields for SchemaElementFields {
     type Made = SchemaElement;
 
     ghost none = { schema_element_none };
 
-    ghost step = { schema_element_step };
-
     ghost after = { schema_element_after };
 
-    ghost judged = { λ met. schema_element_of met.kind met.type_length met.repetition met.name met.num_children met.converted };
+    ghost judged = { schema_element_of };
 
-    ghost at_end = { λ met. refl };
+    ghost at_end = { λ known. refl };
 
-    ghost at_field = { λ met id t fs. refl };
+    ghost at_field = { λ known id t fs. refl };
 
     ghost causes = { schema_element_causes };
 
-    fn none() -> SchemaElementMet {
-        SchemaElementMet {
-            kind: Met::Absent,
-            type_length: Met::Absent,
-            repetition: Met::Absent,
-            name: Met::Absent,
-            num_children: Met::Absent,
-            converted: Met::Absent,
+    fn none() -> SchemaElementFields {
+        SchemaElementFields {
+            kind: FieldState::Absent,
+            type_length: FieldState::Absent,
+            repetition: FieldState::Absent,
+            name: FieldState::Absent,
+            num_children: FieldState::Absent,
+            converted: FieldState::Absent,
         }
     }
 
-    fn take(
+    fn read_field(
         &mut self,
         alloc: Global,
         reader: &mut Reader<'_>,
@@ -102,45 +100,43 @@ impl Item for SchemaElement {
         alloc: Global,
         reader: &mut Reader<'_>,
         kind: TKind,
-    ) -> Result<Met<SchemaElement>, ThriftRefusal> {
-        struct_item::<SchemaElementMet>(alloc, reader, kind)
+    ) -> Result<FieldState<SchemaElement>, ThriftRefusal> {
+        struct_item::<SchemaElementFields>(alloc, reader, kind)
     }
 }
 
-/// The fields of RowGroup.
+/// The field states of RowGroup.
 #[derive(Drop)]
-pub(crate) struct RowGroupMet {
-    chunks: Met<Sequence<ColumnChunk>>,
-    num_rows: Met<i64>,
-    ordinal: Met<i16>,
+pub(crate) struct RowGroupFields {
+    chunks: FieldState<Sequence<ColumnChunk>>,
+    num_rows: FieldState<i64>,
+    ordinal: FieldState<i16>,
 }
 
-impl MetFields for RowGroupMet {
+impl StructFields for RowGroupFields {
     type Made = RowGroup;
 
     ghost none = { row_group_none };
 
-    ghost step = { row_group_step };
-
     ghost after = { row_group_after };
 
-    ghost judged = { λ met. row_group_of met.chunks met.num_rows met.ordinal };
+    ghost judged = { row_group_of };
 
-    ghost at_end = { λ met. refl };
+    ghost at_end = { λ known. refl };
 
-    ghost at_field = { λ met id t fs. refl };
+    ghost at_field = { λ known id t fs. refl };
 
     ghost causes = { row_group_causes };
 
-    fn none() -> RowGroupMet {
-        RowGroupMet {
-            chunks: Met::Absent,
-            num_rows: Met::Absent,
-            ordinal: Met::Absent,
+    fn none() -> RowGroupFields {
+        RowGroupFields {
+            chunks: FieldState::Absent,
+            num_rows: FieldState::Absent,
+            ordinal: FieldState::Absent,
         }
     }
 
-    fn take(
+    fn read_field(
         &mut self,
         alloc: Global,
         reader: &mut Reader<'_>,
@@ -174,49 +170,47 @@ impl Item for RowGroup {
         alloc: Global,
         reader: &mut Reader<'_>,
         kind: TKind,
-    ) -> Result<Met<RowGroup>, ThriftRefusal> {
-        struct_item::<RowGroupMet>(alloc, reader, kind)
+    ) -> Result<FieldState<RowGroup>, ThriftRefusal> {
+        struct_item::<RowGroupFields>(alloc, reader, kind)
     }
 }
 
-/// The fields of FileMetaData.
+/// The field states of FileMetaData.
 #[derive(Drop)]
-pub(crate) struct FileMet {
-    schema: Met<Sequence<SchemaElement>>,
-    num_rows: Met<i64>,
-    groups: Met<Sequence<RowGroup>>,
-    algorithm: Met<AlgorithmMeta>,
-    signing_key_metadata: Met<Bytes>,
+pub(crate) struct FileMetaFields {
+    schema: FieldState<Sequence<SchemaElement>>,
+    num_rows: FieldState<i64>,
+    groups: FieldState<Sequence<RowGroup>>,
+    algorithm: FieldState<AlgorithmMeta>,
+    signing_key_metadata: FieldState<Bytes>,
 }
 
-impl MetFields for FileMet {
-    type Made = FileFields;
+impl StructFields for FileMetaFields {
+    type Made = RawFileMeta;
 
-    ghost none = { file_fields_none };
+    ghost none = { raw_file_meta_none };
 
-    ghost step = { file_fields_step };
+    ghost after = { raw_file_meta_after };
 
-    ghost after = { file_fields_after };
+    ghost judged = { raw_file_meta_of };
 
-    ghost judged = { λ met. file_fields_of met.schema met.num_rows met.groups met.algorithm met.signing_key_metadata };
+    ghost at_end = { λ known. refl };
 
-    ghost at_end = { λ met. refl };
+    ghost at_field = { λ known id t fs. refl };
 
-    ghost at_field = { λ met id t fs. refl };
+    ghost causes = { raw_file_meta_causes };
 
-    ghost causes = { file_fields_causes };
-
-    fn none() -> FileMet {
-        FileMet {
-            schema: Met::Absent,
-            num_rows: Met::Absent,
-            groups: Met::Absent,
-            algorithm: Met::Absent,
-            signing_key_metadata: Met::Absent,
+    fn none() -> FileMetaFields {
+        FileMetaFields {
+            schema: FieldState::Absent,
+            num_rows: FieldState::Absent,
+            groups: FieldState::Absent,
+            algorithm: FieldState::Absent,
+            signing_key_metadata: FieldState::Absent,
         }
     }
 
-    fn take(
+    fn read_field(
         &mut self,
         alloc: Global,
         reader: &mut Reader<'_>,
@@ -226,14 +220,14 @@ impl MetFields for FileMet {
             2 => self.schema = list_field(alloc, reader, head.kind)?,
             3 => self.num_rows = int64_field(reader, head.kind)?,
             4 => self.groups = list_field(alloc, reader, head.kind)?,
-            8 => self.algorithm = struct_field::<AlgorithmMet>(alloc, reader, head.kind)?,
+            8 => self.algorithm = struct_field::<AlgorithmFields>(alloc, reader, head.kind)?,
             9 => self.signing_key_metadata = binary_field(alloc, reader, head.kind)?,
             _ => reader.skip(head.kind)?,
         }
         Ok(())
     }
 
-    fn judge(self) -> Result<FileFields, FieldRefusal> {
+    fn judge(self) -> Result<RawFileMeta, FieldRefusal> {
         let schema = self.schema.needed(StructName::FileMetaData, 2)?;
         let num_rows = self.num_rows.needed(StructName::FileMetaData, 3)?;
         let groups = self.groups.needed(StructName::FileMetaData, 4)?;
@@ -241,7 +235,7 @@ impl MetFields for FileMet {
         let signing_key_metadata = self
             .signing_key_metadata
             .optional(StructName::FileMetaData, 9)?;
-        Ok(FileFields {
+        Ok(RawFileMeta {
             schema,
             num_rows,
             groups,
@@ -251,15 +245,16 @@ impl MetFields for FileMet {
     }
 }
 
-/// Reads the fields of a footer, before the rules on their values, and how many bytes it takes.
-pub fn read_file_fields(
+/// Reads the FileMetaData at the start of `bytes` and gives its size in bytes. The rules on the values of its fields
+/// are not applied. Refusals are as for `read_column_meta`.
+pub fn read_raw_file_meta(
     alloc: Global,
     place: &Place,
     bytes: &[u8],
-) -> Result<(FileFields, usize), Refusal>
-    ensures answer { Answers result (struct_at place.now file_fields bytes.now) }
+) -> Result<(RawFileMeta, usize), Refusal>
+    ensures answer { Answers result (struct_at place.now raw_file_meta bytes.now) }
     ensures quiet { Quiet result }
-    ensures causes { HasStructCause result }
+    ensures causes { CausedBy is_struct_cause result }
 {
-    read_front::<FileMet>(alloc, *place, bytes)
+    read_front::<FileMetaFields>(alloc, *place, bytes)
 }

@@ -1,55 +1,53 @@
-// The headers of pages.
+// Reads page headers.
 ghost use Rattle.std.specs.Prelude.{◌≡◌, refl};
-ghost use Rattle.parquet_fields.specs.Answered.{HasStructCause};
+ghost use Rattle.pme_base.specs.Causes.{CausedBy};
+ghost use Rattle.parquet_fields.specs.Causes.{is_struct_cause};
 ghost use Rattle.parquet_fields.specs.Calls.{page_head_at};
 ghost use Rattle.pme_base.specs.Steps.{Answers, Quiet};
 ghost use Rattle.parquet_fields.specs.Causes.{data_counts_causes, dictionary_counts_causes, page_head_causes};
-ghost use Rattle.parquet_fields.specs.Met.{data_counts_none, data_counts_step, data_counts_after, dictionary_counts_none, dictionary_counts_step, dictionary_counts_after, page_head_none, page_head_step, page_head_after};
-ghost use Rattle.parquet_fields.specs.Structs.{data_counts_of, dictionary_counts_of, page_head_of, data_page as data_page_of, dictionary_page as dictionary_page_of, page_of_type as head_of_type};
+ghost use Rattle.parquet_fields.specs.Structs.{data_counts_none, data_counts_after, dictionary_counts_none, dictionary_counts_after, page_head_none, page_head_after, data_counts_of, dictionary_counts_of, page_head_of, data_page as data_page_of, dictionary_page as dictionary_page_of, page_of_type as head_of_type};
 
-use crate::met::Met;
-use crate::met_fields::{MetFields, read_front, struct_field};
+use crate::field_state::FieldState;
 use crate::page_parts::{DataCounts, DictionaryCounts};
+use crate::struct_fields::{StructFields, read_front, struct_field};
 use crate::values::int32_field;
 use parquet_types::{DataHead, DictionaryHead, FieldRefusal, PageHead};
 use pme_base::{Cause, Place, Refusal, StructName};
 use std::alloc::Global;
 use thrift_compact::{FieldHead, Reader, ThriftRefusal};
 
-/// The fields of DataPageHeader.
+/// The field states of DataPageHeader.
 #[derive(Drop)]
-pub(crate) struct DataCountsMet {
-    num_values: Met<i32>,
-    encoding: Met<i32>,
-    level_encoding: Met<i32>,
+pub(crate) struct DataCountsFields {
+    num_values: FieldState<i32>,
+    encoding: FieldState<i32>,
+    level_encoding: FieldState<i32>,
 }
 
-impl MetFields for DataCountsMet {
+impl StructFields for DataCountsFields {
     type Made = DataCounts;
 
     ghost none = { data_counts_none };
 
-    ghost step = { data_counts_step };
-
     ghost after = { data_counts_after };
 
-    ghost judged = { λ met. data_counts_of met.num_values met.encoding met.level_encoding };
+    ghost judged = { data_counts_of };
 
-    ghost at_end = { λ met. refl };
+    ghost at_end = { λ known. refl };
 
-    ghost at_field = { λ met id t fs. refl };
+    ghost at_field = { λ known id t fs. refl };
 
     ghost causes = { data_counts_causes };
 
-    fn none() -> DataCountsMet {
-        DataCountsMet {
-            num_values: Met::Absent,
-            encoding: Met::Absent,
-            level_encoding: Met::Absent,
+    fn none() -> DataCountsFields {
+        DataCountsFields {
+            num_values: FieldState::Absent,
+            encoding: FieldState::Absent,
+            level_encoding: FieldState::Absent,
         }
     }
 
-    fn take(
+    fn read_field(
         &mut self,
         alloc: Global,
         reader: &mut Reader<'_>,
@@ -76,38 +74,36 @@ impl MetFields for DataCountsMet {
     }
 }
 
-/// The fields of DictionaryPageHeader.
+/// The field states of DictionaryPageHeader.
 #[derive(Drop)]
-pub(crate) struct DictionaryCountsMet {
-    num_values: Met<i32>,
-    encoding: Met<i32>,
+pub(crate) struct DictionaryCountsFields {
+    num_values: FieldState<i32>,
+    encoding: FieldState<i32>,
 }
 
-impl MetFields for DictionaryCountsMet {
+impl StructFields for DictionaryCountsFields {
     type Made = DictionaryCounts;
 
     ghost none = { dictionary_counts_none };
 
-    ghost step = { dictionary_counts_step };
-
     ghost after = { dictionary_counts_after };
 
-    ghost judged = { λ met. dictionary_counts_of met.num_values met.encoding };
+    ghost judged = { dictionary_counts_of };
 
-    ghost at_end = { λ met. refl };
+    ghost at_end = { λ known. refl };
 
-    ghost at_field = { λ met id t fs. refl };
+    ghost at_field = { λ known id t fs. refl };
 
     ghost causes = { dictionary_counts_causes };
 
-    fn none() -> DictionaryCountsMet {
-        DictionaryCountsMet {
-            num_values: Met::Absent,
-            encoding: Met::Absent,
+    fn none() -> DictionaryCountsFields {
+        DictionaryCountsFields {
+            num_values: FieldState::Absent,
+            encoding: FieldState::Absent,
         }
     }
 
-    fn take(
+    fn read_field(
         &mut self,
         alloc: Global,
         reader: &mut Reader<'_>,
@@ -131,44 +127,42 @@ impl MetFields for DictionaryCountsMet {
     }
 }
 
-/// The fields of PageHeader.
+/// The field states of PageHeader.
 #[derive(Drop)]
-pub(crate) struct PageHeadMet {
-    page_type: Met<i32>,
-    uncompressed: Met<i32>,
-    compressed: Met<i32>,
-    counts: Met<DataCounts>,
-    dictionary: Met<DictionaryCounts>,
+pub(crate) struct PageHeadFields {
+    page_type: FieldState<i32>,
+    uncompressed: FieldState<i32>,
+    compressed: FieldState<i32>,
+    counts: FieldState<DataCounts>,
+    dictionary: FieldState<DictionaryCounts>,
 }
 
-impl MetFields for PageHeadMet {
+impl StructFields for PageHeadFields {
     type Made = PageHead;
 
     ghost none = { page_head_none };
 
-    ghost step = { page_head_step };
-
     ghost after = { page_head_after };
 
-    ghost judged = { λ met. page_head_of met.page_type met.uncompressed met.compressed met.counts met.dictionary };
+    ghost judged = { page_head_of };
 
-    ghost at_end = { λ met. refl };
+    ghost at_end = { λ known. refl };
 
-    ghost at_field = { λ met id t fs. refl };
+    ghost at_field = { λ known id t fs. refl };
 
     ghost causes = { page_head_causes };
 
-    fn none() -> PageHeadMet {
-        PageHeadMet {
-            page_type: Met::Absent,
-            uncompressed: Met::Absent,
-            compressed: Met::Absent,
-            counts: Met::Absent,
-            dictionary: Met::Absent,
+    fn none() -> PageHeadFields {
+        PageHeadFields {
+            page_type: FieldState::Absent,
+            uncompressed: FieldState::Absent,
+            compressed: FieldState::Absent,
+            counts: FieldState::Absent,
+            dictionary: FieldState::Absent,
         }
     }
 
-    fn take(
+    fn read_field(
         &mut self,
         alloc: Global,
         reader: &mut Reader<'_>,
@@ -178,8 +172,10 @@ impl MetFields for PageHeadMet {
             1 => self.page_type = int32_field(reader, head.kind)?,
             2 => self.uncompressed = int32_field(reader, head.kind)?,
             3 => self.compressed = int32_field(reader, head.kind)?,
-            5 => self.counts = struct_field::<DataCountsMet>(alloc, reader, head.kind)?,
-            7 => self.dictionary = struct_field::<DictionaryCountsMet>(alloc, reader, head.kind)?,
+            5 => self.counts = struct_field::<DataCountsFields>(alloc, reader, head.kind)?,
+            7 => self.dictionary = struct_field::<DictionaryCountsFields>(
+                alloc, reader, head.kind,
+            )?,
             _ => reader.skip(head.kind)?,
         }
         Ok(())
@@ -205,8 +201,7 @@ fn refused(cause: Cause, field: i16) -> FieldRefusal
     }
 }
 
-// A data page has type 0 and a dictionary page type 2. An index page, 1, and a data page of version 2, 3, are left
-// out.
+// PageType 0 is a data page and 2 a dictionary page. Index pages (1) and data pages of version 2 (3) are unsupported.
 fn page_of_type(
     page_type: i32,
     uncompressed: i32,
@@ -262,7 +257,7 @@ fn dictionary_page(
     }))
 }
 
-/// Reads PageHeader, and how many bytes it takes. Refusals are at `place`.
+/// Reads the PageHeader at the start of `bytes` and gives its size in bytes. Refusals are as for `read_column_meta`.
 pub fn read_page_head(
     alloc: Global,
     place: &Place,
@@ -270,7 +265,7 @@ pub fn read_page_head(
 ) -> Result<(PageHead, usize), Refusal>
     ensures answer { Answers result (page_head_at place.now bytes.now) }
     ensures quiet { Quiet result }
-    ensures causes { HasStructCause result }
+    ensures causes { CausedBy is_struct_cause result }
 {
-    read_front::<PageHeadMet>(alloc, *place, bytes)
+    read_front::<PageHeadFields>(alloc, *place, bytes)
 }

@@ -1,6 +1,6 @@
-// The headers of pages as their fields are read.
+// The structs that a PageHeader holds.
 
-/// The fields of a DataPageHeader.
+/// A DataPageHeader.
 #[derive(Clone, Copy, Debug, PartialEq, Eq, Drop)]
 pub struct DataCounts {
     pub num_values: i32,
@@ -8,7 +8,7 @@ pub struct DataCounts {
     pub level_encoding: i32,
 }
 
-/// The fields of a DictionaryPageHeader.
+/// A DictionaryPageHeader.
 #[derive(Clone, Copy, Debug, PartialEq, Eq, Drop)]
 pub struct DictionaryCounts {
     pub num_values: i32,

@@ -1,4 +1,4 @@
--- The spelling of a tree that is laid is in the grammar, and is read as that tree.
+-- The spelling of a tree with ascending ids, within the limits, is in the grammar and is read as that tree.
 use Rattle.std.proofs.Common.{◌≡◌, ℕ, ◌-◌, ℤ, true, false, List, [], ◌∷◌, ◌++◌, length, length-append, Ok, refl, sym, ◌∙◌, ap, subst, arith}
 use Rattle.pme_base.specs.declared.place.Place.{Place}
 use Rattle.pme_base.specs.Steps.{◌>>=◌}
@@ -65,7 +65,7 @@ read_again fs rest laid fits =
     let read = whole_read (struct fs) (written fs) rest (written fs ++ rest) spelled refl in
     subst (λ gs. whole_struct (written fs ++ rest) ≡ Ok (gs, rest)) (sym (same_fields fs read.0 read.2)) read.1
 
--- a struct whose fields are checked as a value is read as it
+-- If the fields of a struct are judged as a value, the struct's bytes are read as that value.
 pub struct_again :
     {X : Type 0} (place : Place) (checked : Fields → Checked X) (fs : Fields) (x : X) (rest : List ℕ)
     → IsLaid 32 (struct fs) → NumbersFit (struct fs) → checked fs ≡ Ok x → struct_at place checked (written fs ++ rest) ≡ Ok (x, length (written fs))

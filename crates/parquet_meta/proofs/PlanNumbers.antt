@@ -1,4 +1,4 @@
--- The numbers of a plan's trees are those of the plan, so they fit where the plan's are in range.
+-- The numbers in the trees of a plan are those of the plan, so they fit if those are in range.
 use Rattle.std.proofs.Common.{◌≡◌, ℕ, ◌+◌, ◌<◌, ◌≤◌, ℤ, pos, Bool, true, false, FitsSigned, List, [], ◌∷◌, length, map as map_list, get_or, below_more, Option, Some, None, ◌∙◌, subst, arith, w16, w32, w64}
 use Rattle.std.specs.List.{All}
 use Rattle.std.proofs.lemmas.Int.{ints}
@@ -21,7 +21,7 @@ use Rattle.parquet_writing.specs.Plans.{where_some, where_true, structs, page_he
 use Rattle.parquet_meta.specs.Ranges.{HeadInRange, ChunkInRange, GroupInRange, PlanInRange}
 use Rattle.parquet_meta.specs.ReadBack.{EachFits, FieldsFit}
 
--- a fact of each item before an index, and of each item
+-- A fact of each item before an index and of the item there holds for each item up to it.
 pub all_more :
     {X : Type 0} (P : X → Type 0) (xs : List X) (i : ℕ) (x : X) → i < length xs → x ≡ get_or xs i x
     → ((k : ℕ) (d : X) → k < i → P (get_or xs k d)) → P x → (k : ℕ) (d : X) → k < i + 1 → P (get_or xs k d)
@@ -31,7 +31,7 @@ all_more P xs i x within is before here k d below =
 pub all_over : {X : Type 0} (P : X → Type 0) (xs ys : List X) (i : ℕ) → length xs ≤ i → xs ≡ ys → ((k : ℕ) (d : X) → k < i → P (get_or xs k d)) → All P ys
 all_over P xs ys i over same before = subst (All P) same (λ k d h. before k d (omega (arith, h, over)))
 
--- small numbers
+-- Small numbers.
 kind_fits : (k : ColumnKind) → FitsSigned w32 (kind_number k)
 kind_fits kind.Boolean = grind (arith, ints)
 kind_fits kind.Int32 = grind (arith, ints)
@@ -52,12 +52,12 @@ repetition_fits : (optional : Bool) → FitsSigned w32 (repetition optional)
 repetition_fits true = grind (arith, ints)
 repetition_fits false = grind (arith, ints)
 
--- the header of a page
+-- A page header.
 pub page_header_fits : (head : DataHead) → HeadInRange head → FieldsFit (page_header head)
 page_header_fits head range =
     (small_fits 0 (omega arith), (range.uncompressed, (range.compressed, ((range.num_values, (range.encoding, (range.level_encoding, (small_fits 3 (omega arith), tt)))), tt))))
 
--- a chunk
+-- A column chunk.
 pub column_meta_fits : (chunk : WrittenChunk) → ChunkInRange chunk → FieldsFit (column_meta_data chunk)
 column_meta_fits chunk range = (
   kind_fits chunk.spec.kind,
@@ -70,7 +70,7 @@ column_meta_fits chunk range = (
   ),
 )
 
--- fields of bytes alone have no numbers
+-- Fields of bytes alone have no numbers.
 bytes_fit : (id : ℤ) (bytes : Option (List ℕ)) → FieldsFit (where_some id binary bytes no_fields)
 bytes_fit id None = tt
 bytes_fit id (Some bytes) = (tt, tt)
@@ -93,7 +93,7 @@ chunks_fit [] all = tt
 chunks_fit (chunk ∷ chunks) all =
     (chunk_fits chunk (All-head ChunkInRange chunk chunks all), chunks_fit chunks (All-tail ChunkInRange chunk chunks all))
 
--- the row groups
+-- The row groups.
 first_fits : (chunks : List WrittenChunk) → All ChunkInRange chunks → FitsSigned w64 (first_start chunks)
 first_fits [] all = grind (arith, ints)
 first_fits (chunk ∷ chunks) all = (All-head ChunkInRange chunk chunks all).start
@@ -111,7 +111,7 @@ groups_fit position (group ∷ groups) few fits ranges = (
   groups_fit (position + 1) groups (omega (arith, few)) (All-tail FitsGroup group groups fits) (All-tail GroupInRange group groups ranges),
 )
 
--- the schema
+-- The schema.
 length_fits : (k : ColumnKind) (others : Fields) → FitsKind k → FieldsFit others → FieldsFit (where_some (pos 2) int32 (fixed_length k) others)
 length_fits (kind.Fixed length) others small fits = (small_fits length small, fits)
 length_fits kind.Boolean others small fits = fits
@@ -134,7 +134,7 @@ columns_fit (column ∷ columns) all =
       columns_fit columns (All-tail FitsColumn column columns all),
     )
 
--- the algorithm of a signed footer
+-- The algorithm of a signed footer.
 supply_fits : (supply : Bool) → FieldsFit (where_true (pos 3) (truth true) supply no_fields)
 supply_fits false = tt
 supply_fits true = (tt, tt)
@@ -147,7 +147,7 @@ signed_fits : (algorithm : Option AlgorithmMeta) (others : Fields) → FieldsFit
 signed_fits None others fits = fits
 signed_fits (Some algorithm) others fits = ((prefix_fits algorithm.prefix _ (tt, supply_fits algorithm.supply), tt), fits)
 
--- a footer
+-- A footer.
 pub file_meta_fits : (plan : FooterPlan) → FitsFooter plan → PlanInRange plan → FieldsFit (file_meta_data plan)
 file_meta_fits plan fits range = (
   small_fits 1 (omega arith),

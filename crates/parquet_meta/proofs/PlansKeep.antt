@@ -1,4 +1,4 @@
--- The values of a plan that keeps the rules of a footer pass them.
+-- The values of a plan that keeps the rules on footers pass these rules.
 use Rattle.std.proofs.Common.{◌≡◌, ℕ, suc, ◌+◌, ◌≤◌, nat_lt, ℤ, pos, ◌+ℤ◌, ◌≤ℤ◌, int_lt, Bool, true, false, if◌then◌else◌, List, [], ◌∷◌, length, map as map_list, Some, Ok, refl, sym, ◌∙◌, ap, subst, arith}
 use Rattle.std.specs.Ordering.{int_eq}
 use Rattle.std.specs.FinSet.{contains, empty, insert}
@@ -34,16 +34,16 @@ same_bytes : (xs : List ℕ) → bytes_eq xs xs ≡ true
 same_bytes [] = refl
 same_bytes (x ∷ xs) = grind (arith, same_bytes xs)
 
-equal_numbers : (place : Place) (a b : ℤ) → a ≡ b → rule.same_number place a b ≡ Ok tt
-equal_numbers place a b e = subst (λ c. rule.same_number place a c ≡ Ok tt) e (ap (λ t. if t then Ok tt else rule.differs place a a) (same a))
+equal_numbers : (place : Place) (a b : ℤ) → a ≡ b → rule.check_equal place a b ≡ Ok tt
+equal_numbers place a b e = subst (λ c. rule.check_equal place a c ≡ Ok tt) e (ap (λ t. if t then Ok tt else rule.differs place a a) (same a))
 
-few : (place : Place) (n : ℕ) → n ≤ 32768 → rule.not_more place n ≡ Ok tt
+few : (place : Place) (n : ℕ) → n ≤ 32768 → rule.check_count place n ≡ Ok tt
 few place n small = let within : nat_lt 32768 n ≡ false = grind arith in rw within refl
 
-counted : (place : Place) (struct : StructName) (number z : ℤ) → pos 0 ≤ℤ z → rule.not_negative place struct number z ≡ Ok tt
+counted : (place : Place) (struct : StructName) (number z : ℤ) → pos 0 ≤ℤ z → rule.check_not_negative place struct number z ≡ Ok tt
 counted place struct number z up = let within : int_lt z (pos 0) ≡ false = grind (arith, ints, up) in rw within refl
 
--- a column
+-- A column.
 kind_is : (place : Place) (k : ColumnKind) (text : Bool) → IsKindOf k text → rule.kind_of place (Some (kind_number k)) (fixed_length k) ≡ Ok k
 kind_is place kind.Boolean text is_one = refl
 kind_is place kind.Int32 text is_one = refl
@@ -69,14 +69,14 @@ optional_is : (place : Place) (optional : Bool) → rule.optional_of place (Some
 optional_is place false = refl
 optional_is place true = refl
 
-fresh_is : (place : Place) (text : List ℕ) (earlier : rule.Names) → is_utf8 text ≡ true → contains earlier text ≡ false → rule.fresh_name place text earlier ≡ Ok tt
+fresh_is : (place : Place) (text : List ℕ) (earlier : rule.Names) → is_utf8 text ≡ true → contains earlier text ≡ false → rule.check_name place text earlier ≡ Ok tt
 fresh_is place text earlier is_text new = rw (is_text, new) refl
 
 column_is : (place : Place) (earlier : rule.Names) (column : ColumnSpec) → is_utf8 column.name ≡ true → contains earlier column.name ≡ false → IsKindOf column.kind column.text → rule.column_of place earlier (column_part column) ≡ Ok column
 column_is place earlier column text new is_one =
     let last : ColumnKind → Bool → ColumnSpec = λ k optional. record { name = column.name; kind = k; optional = optional; text = rule.is_text k (converted_part column.text) } in
-    ap (λ r. r >>= λ k. (rule.optional_of place (Some (repetition column.optional)) >>= λ o. (rule.fresh_name place column.name earlier >>= λ n. Ok (last k o)))) (kind_is place column.kind column.text is_one)
-    ∙ (ap (λ r. r >>= λ o. (rule.fresh_name place column.name earlier >>= λ n. Ok (last column.kind o))) (optional_is place column.optional)
+    ap (λ r. r >>= λ k. (rule.optional_of place (Some (repetition column.optional)) >>= λ o. (rule.check_name place column.name earlier >>= λ n. Ok (last k o)))) (kind_is place column.kind column.text is_one)
+    ∙ (ap (λ r. r >>= λ o. (rule.check_name place column.name earlier >>= λ n. Ok (last column.kind o))) (optional_is place column.optional)
     ∙ (ap (λ r. r >>= λ n. Ok (last column.kind column.optional)) (fresh_is place column.name earlier text new)
     ∙ ap (λ t. Ok (record { name = column.name; kind = column.kind; optional = column.optional; text = t })) (text_is column.kind column.text is_one)))
 
@@ -90,11 +90,11 @@ schema_is : (place : Place) (columns : List ColumnSpec) → AreColumns empty col
 schema_is place columns are small =
     let elements = map_list column_part columns in
     let n : length elements ≡ length columns = length-map columns column_part in
-    ap (λ r. r >>= λ u. (rule.not_more place (length elements) >>= λ v. rule.columns_of place empty elements)) (equal_numbers place (pos (length columns)) (pos (length elements)) (ap pos (sym n)))
+    ap (λ r. r >>= λ u. (rule.check_count place (length elements) >>= λ v. rule.columns_of place empty elements)) (equal_numbers place (pos (length columns)) (pos (length elements)) (ap pos (sym n)))
     ∙ (ap (λ r. r >>= λ v. rule.columns_of place empty elements) (few place (length elements) (subst (λ m. m ≤ 32768) (sym n) small))
     ∙ columns_are place empty columns are)
 
--- the chunks of a group
+-- The column chunks of a row group.
 crypto_is : (place : Place) (text column : List ℕ) (crypto : ChunkCrypto) → text ≡ column → rule.chunk_crypto place column (chunk_key text crypto) ≡ Ok crypto
 crypto_is place text column key.Plain e = refl
 crypto_is place text column key.FooterKey e = refl
@@ -115,14 +115,14 @@ as_many [] (chunk ∷ chunks) are = absurd are
 as_many (column ∷ columns) [] are = absurd are
 as_many (column ∷ columns) (chunk ∷ chunks) are = ap suc (as_many columns chunks are.1)
 
--- the groups
+-- The row groups.
 group_is : (place : Place) (columns : List ColumnSpec) (position : ℕ) (group : WrittenGroup) → AreChunksOf columns group.chunks → pos 0 ≤ℤ group.num_rows → rule.group_of place columns position (group_part position group) ≡ Ok (planned_group position group)
 group_is place columns position group are up =
     let parts = map_list chunk_part group.chunks in
     let whole : length parts ≡ length columns = length-map group.chunks chunk_part ∙ as_many columns group.chunks are in
     let last : List ChunkMeta → RowGroupMeta = λ cs. record { chunks = cs; num_rows = group.num_rows; ordinal = Some (pos position) } in
-    ap (λ r. r >>= λ w. (rule.not_negative place name.RowGroup (pos 3) group.num_rows >>= λ c. (rule.in_position place position (Some (pos position)) >>= λ p. (rule.chunks_of place columns parts >>= λ cs. Ok (last cs))))) (equal_numbers place (pos (length parts)) (pos (length columns)) (ap pos whole))
-    ∙ (ap (λ r. r >>= λ c. (rule.in_position place position (Some (pos position)) >>= λ p. (rule.chunks_of place columns parts >>= λ cs. Ok (last cs)))) (counted place name.RowGroup (pos 3) group.num_rows up)
+    ap (λ r. r >>= λ w. (rule.check_not_negative place name.RowGroup (pos 3) group.num_rows >>= λ c. (rule.check_ordinal place position (Some (pos position)) >>= λ p. (rule.chunks_of place columns parts >>= λ cs. Ok (last cs))))) (equal_numbers place (pos (length parts)) (pos (length columns)) (ap pos whole))
+    ∙ (ap (λ r. r >>= λ c. (rule.check_ordinal place position (Some (pos position)) >>= λ p. (rule.chunks_of place columns parts >>= λ cs. Ok (last cs)))) (counted place name.RowGroup (pos 3) group.num_rows up)
     ∙ (ap (λ r. r >>= λ p. (rule.chunks_of place columns parts >>= λ cs. Ok (last cs))) (equal_numbers place (pos position) (pos position) refl)
     ∙ ap (λ r. r >>= λ cs. Ok (last cs)) (chunks_are place columns group.chunks are)))
 
@@ -140,19 +140,19 @@ rows_are : (position : ℕ) (groups : List WrittenGroup) → rule.all_rows (plan
 rows_are position [] = refl
 rows_are position (group ∷ groups) = ap (λ n. group.num_rows +ℤ n) (rows_are (position + 1) groups)
 
-summed_is : (place : Place) (sum rows : ℤ) → sum ≡ rows → rows ≤ℤ pos 9223372036854775807 → rule.same_rows place sum rows ≡ Ok tt
+summed_is : (place : Place) (sum rows : ℤ) → sum ≡ rows → rows ≤ℤ pos 9223372036854775807 → rule.check_rows place sum rows ≡ Ok tt
 summed_is place sum rows e small =
     let within : int_lt (pos 9223372036854775807) sum ≡ false = grind (arith, ints, e, small) in
-    ap (λ b. if b then rule.bad_value place BadField name.FileMetaData (pos 3) else rule.same_number place sum rows) within ∙ equal_numbers place sum rows e
+    ap (λ b. if b then rule.bad_value place BadField name.FileMetaData (pos 3) else rule.check_equal place sum rows) within ∙ equal_numbers place sum rows e
 
 file_is : (place : Place) (plan : FooterPlan) → IsFilePlan plan → rule.file_of place (plan_fields plan) ≡ Ok (planned plan)
 file_is place plan keeps =
     let file = plan_fields plan in
     let last : List ColumnSpec → List RowGroupMeta → FileMeta = λ columns groups. record { schema = columns; num_rows = plan.num_rows; groups = groups; algorithm = plan.algorithm; signing_key_metadata = plan.signing_key_metadata } in
-    ap (λ r. r >>= λ columns. (rule.not_negative place name.FileMetaData (pos 3) plan.num_rows >>= λ c. (rule.not_more place (length file.groups) >>= λ f. (rule.groups_of place columns 0 file.groups >>= λ groups. (rule.same_rows place (rule.all_rows groups) plan.num_rows >>= λ s. Ok (last columns groups)))))) (schema_is place plan.schema keeps.columns keeps.few_columns)
-    ∙ (ap (λ r. r >>= λ c. (rule.not_more place (length file.groups) >>= λ f. (rule.groups_of place plan.schema 0 file.groups >>= λ groups. (rule.same_rows place (rule.all_rows groups) plan.num_rows >>= λ s. Ok (last plan.schema groups))))) (counted place name.FileMetaData (pos 3) plan.num_rows keeps.counted)
-    ∙ (ap (λ r. r >>= λ f. (rule.groups_of place plan.schema 0 file.groups >>= λ groups. (rule.same_rows place (rule.all_rows groups) plan.num_rows >>= λ s. Ok (last plan.schema groups)))) (few place (length file.groups) (subst (λ m. m ≤ 32768) (sym (groups_count 0 plan.groups)) keeps.few_groups))
-    ∙ (ap (λ r. r >>= λ groups. (rule.same_rows place (rule.all_rows groups) plan.num_rows >>= λ s. Ok (last plan.schema groups))) (groups_are place plan.schema 0 plan.groups keeps.groups)
+    ap (λ r. r >>= λ columns. (rule.check_not_negative place name.FileMetaData (pos 3) plan.num_rows >>= λ c. (rule.check_count place (length file.groups) >>= λ f. (rule.groups_of place columns 0 file.groups >>= λ groups. (rule.check_rows place (rule.all_rows groups) plan.num_rows >>= λ s. Ok (last columns groups)))))) (schema_is place plan.schema keeps.columns keeps.few_columns)
+    ∙ (ap (λ r. r >>= λ c. (rule.check_count place (length file.groups) >>= λ f. (rule.groups_of place plan.schema 0 file.groups >>= λ groups. (rule.check_rows place (rule.all_rows groups) plan.num_rows >>= λ s. Ok (last plan.schema groups))))) (counted place name.FileMetaData (pos 3) plan.num_rows keeps.counted)
+    ∙ (ap (λ r. r >>= λ f. (rule.groups_of place plan.schema 0 file.groups >>= λ groups. (rule.check_rows place (rule.all_rows groups) plan.num_rows >>= λ s. Ok (last plan.schema groups)))) (few place (length file.groups) (subst (λ m. m ≤ 32768) (sym (groups_count 0 plan.groups)) keeps.few_groups))
+    ∙ (ap (λ r. r >>= λ groups. (rule.check_rows place (rule.all_rows groups) plan.num_rows >>= λ s. Ok (last plan.schema groups))) (groups_are place plan.schema 0 plan.groups keeps.groups)
     ∙ ap (λ r. r >>= λ s. Ok (last plan.schema (planned_groups 0 plan.groups))) (summed_is place (rule.all_rows (planned_groups 0 plan.groups)) plan.num_rows (rows_are 0 plan.groups ∙ keeps.summed) keeps.small))))
 
 pub file_plan_read : FilePlanIsRead

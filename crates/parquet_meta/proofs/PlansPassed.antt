@@ -1,4 +1,4 @@
--- What passes the rules of a footer is the plan whose values they were.
+-- If the values of a plan pass the rules on footers, the result is the plan.
 use Rattle.std.proofs.Common.{◌≡◌, ℕ, ◌+◌, ℤ, pos, int_lt, Bool, true, false, if◌then◌else◌, List, [], ◌∷◌, ◌++◌, length, map as map_list, Some, Result, Ok, Err, refl, sym, ◌∙◌, ap, arith}
 use Rattle.std.specs.FinSet.{empty, insert}
 use Rattle.std.specs.Ordering.{int_eq}
@@ -29,10 +29,10 @@ use Rattle.parquet_meta.specs.PlanRules.{IsTextOf, AreTyped, text_of, typed_colu
 use Rattle.parquet_meta.specs.ReadBack.{NumbersFit, written, chunk_key, chunk_part, group_part, group_parts, root_part, column_part, converted_part, plan_fields}
 use Rattle.parquet_meta.proofs.ReadBackProved.{file_meta_read}
 
-equal_were : (place : Place) (a b : ℤ) (u : Unit {0}) → rule.same_number place a b ≡ Ok u → a ≡ b
+equal_were : (place : Place) (a b : ℤ) (u : Unit {0}) → rule.check_equal place a b ≡ Ok u → a ≡ b
 equal_were place a b u e = let same : int_eq a b ≡ true = (tested (int_eq a b) tt u _ e).0 in grind (arith, ints, same)
 
--- a column
+-- A column.
 kind_was : (place : Place) (k found : ColumnKind) → rule.kind_of place (Some (kind_number k)) (fixed_length k) ≡ Ok found → found ≡ k
 kind_was place kind.Boolean found e = sym (ok_same kind.Boolean found e)
 kind_was place kind.Int32 found e = sym (ok_same kind.Int32 found e)
@@ -63,7 +63,7 @@ column_with column k optional text = record { name = column.name; kind = k; opti
 
 abbrev named : Place → rule.Names → ColumnSpec → ColumnKind → Bool → Result ColumnSpec Refusal
 named place earlier column k optional =
-    rule.fresh_name place column.name earlier >>= λ new. Ok (column_with column k optional (rule.is_text k (converted_part column.text)))
+    rule.check_name place column.name earlier >>= λ new. Ok (column_with column k optional (rule.is_text k (converted_part column.text)))
 
 abbrev kept : Place → rule.Names → ColumnSpec → ColumnKind → Result ColumnSpec Refusal
 kept place earlier column k = rule.optional_of place (Some (repetition column.optional)) >>= λ optional. named place earlier column k optional
@@ -72,7 +72,7 @@ column_was : (place : Place) (earlier : rule.Names) (column found : ColumnSpec) 
 column_was place earlier column found e =
     let k = bind_ok (rule.kind_of place (Some (kind_number column.kind)) (fixed_length column.kind)) (kept place earlier column) found e in
     let o = bind_ok (rule.optional_of place (Some (repetition column.optional))) (named place earlier column k.0) found k.2 in
-    let n = bind_ok (rule.fresh_name place column.name earlier) (λ new. Ok (column_with column k.0 o.0 (rule.is_text k.0 (converted_part column.text)))) found o.2 in
+    let n = bind_ok (rule.check_name place column.name earlier) (λ new. Ok (column_with column k.0 o.0 (rule.is_text k.0 (converted_part column.text)))) found o.2 in
     sym (ok_same (column_with column k.0 o.0 (rule.is_text k.0 (converted_part column.text))) found n.2)
     ∙ (ap (λ x. column_with column x o.0 (rule.is_text x (converted_part column.text))) (kind_was place column.kind k.0 k.1)
     ∙ (ap (λ x. column_with column column.kind x (rule.is_text column.kind (converted_part column.text))) (optional_was place column.optional o.0 o.1)
@@ -91,16 +91,16 @@ columns_were place earlier (column ∷ columns) found e =
 schema_was : (place : Place) (columns found : List ColumnSpec) → rule.schema_of place (root_part (length columns) ∷ map_list column_part columns) ≡ Ok found → found ≡ map_list typed_column columns
 schema_was place columns found e =
     let elements = map_list column_part columns in
-    let counted = bind_ok (rule.same_number place (pos (length columns)) (pos (length elements))) (λ u. rule.not_more place (length elements) >>= λ v. rule.columns_of place empty elements) found e in
-    let few = bind_ok (rule.not_more place (length elements)) (λ v. rule.columns_of place empty elements) found counted.2 in
+    let counted = bind_ok (rule.check_equal place (pos (length columns)) (pos (length elements))) (λ u. rule.check_count place (length elements) >>= λ v. rule.columns_of place empty elements) found e in
+    let few = bind_ok (rule.check_count place (length elements)) (λ v. rule.columns_of place empty elements) found counted.2 in
     columns_were place empty columns found few.2
 
--- the chunks of a group
+-- The column chunks of a row group.
 crypto_was : (place : Place) (text column : List ℕ) (crypto found : ChunkCrypto) → rule.chunk_crypto place column (chunk_key text crypto) ≡ Ok found → found ≡ crypto
 crypto_was place text column key.Plain found e = sym (ok_same key.Plain found e)
 crypto_was place text column key.FooterKey found e = sym (ok_same key.FooterKey found e)
 crypto_was place text column (key.ColumnKey metadata) found e =
-    let own = bind_ok (rule.own_path place (text ∷ []) column) (λ u. Ok (key.ColumnKey metadata)) found e in
+    let own = bind_ok (rule.check_path place (text ∷ []) column) (λ u. Ok (key.ColumnKey metadata)) found e in
     sym (ok_same (key.ColumnKey metadata) found own.2)
 
 abbrev chunk_with : WrittenChunk → ChunkCrypto → ChunkMeta
@@ -123,7 +123,7 @@ chunks_were place (column ∷ columns) (chunk ∷ chunks) found as_many e =
     ∙ (ap (λ c. c ∷ more.0) (chunk_was place column.name chunk one.0 one.1)
     ∙ ap (λ cs. planned_chunk chunk ∷ cs) (chunks_were place columns chunks more.0 (omega (as_many, arith)) more.1))
 
--- the groups
+-- The row groups.
 abbrev group_with : ℕ → WrittenGroup → List ChunkMeta → RowGroupMeta
 group_with position group chunks = record { chunks = chunks; num_rows = group.num_rows; ordinal = Some (pos position) }
 
@@ -131,17 +131,17 @@ abbrev chunks_in : Place → List ColumnSpec → ℕ → WrittenGroup → Result
 chunks_in place columns position group = rule.chunks_of place columns (map_list chunk_part group.chunks) >>= λ cs. Ok (group_with position group cs)
 
 abbrev placed_in : Place → List ColumnSpec → ℕ → WrittenGroup → Result RowGroupMeta Refusal
-placed_in place columns position group = rule.in_position place position (Some (pos position)) >>= λ p. chunks_in place columns position group
+placed_in place columns position group = rule.check_ordinal place position (Some (pos position)) >>= λ p. chunks_in place columns position group
 
 abbrev counted_in : Place → ℤ → Result (Unit {0}) Refusal
-counted_in place rows = rule.not_negative place name.RowGroup (pos 3) rows
+counted_in place rows = rule.check_not_negative place name.RowGroup (pos 3) rows
 
 group_was : (place : Place) (columns : List ColumnSpec) (position : ℕ) (group : WrittenGroup) (found : RowGroupMeta) → rule.group_of place columns position (group_part position group) ≡ Ok found → found ≡ planned_group position group
 group_was place columns position group found e =
     let parts = map_list chunk_part group.chunks in
-    let whole = bind_ok (rule.same_number place (pos (length parts)) (pos (length columns))) (λ w. counted_in place group.num_rows >>= λ c. placed_in place columns position group) found e in
+    let whole = bind_ok (rule.check_equal place (pos (length parts)) (pos (length columns))) (λ w. counted_in place group.num_rows >>= λ c. placed_in place columns position group) found e in
     let counted = bind_ok (counted_in place group.num_rows) (λ c. placed_in place columns position group) found whole.2 in
-    let placed = bind_ok (rule.in_position place position (Some (pos position))) (λ p. chunks_in place columns position group) found counted.2 in
+    let placed = bind_ok (rule.check_ordinal place position (Some (pos position))) (λ p. chunks_in place columns position group) found counted.2 in
     let chunks = bind_ok (rule.chunks_of place columns parts) (λ cs. Ok (group_with position group cs)) found placed.2 in
     let sized : pos (length parts) ≡ pos (length columns) = equal_were place (pos (length parts)) (pos (length columns)) whole.0 whole.1 in
     let same : length group.chunks ≡ length columns = sym (length-map group.chunks chunk_part) ∙ cc in
@@ -161,29 +161,29 @@ abbrev file_with : FooterPlan → List ColumnSpec → List RowGroupMeta → File
 file_with plan columns groups = record { schema = columns; num_rows = plan.num_rows; groups = groups; algorithm = plan.algorithm; signing_key_metadata = plan.signing_key_metadata }
 
 abbrev summed : Place → FooterPlan → List ColumnSpec → List RowGroupMeta → Result FileMeta Refusal
-summed place plan columns groups = rule.same_rows place (rule.all_rows groups) plan.num_rows >>= λ s. Ok (file_with plan columns groups)
+summed place plan columns groups = rule.check_rows place (rule.all_rows groups) plan.num_rows >>= λ s. Ok (file_with plan columns groups)
 
 abbrev grouped : Place → FooterPlan → List ColumnSpec → Result FileMeta Refusal
 grouped place plan columns = rule.groups_of place columns 0 (group_parts 0 plan.groups) >>= λ groups. summed place plan columns groups
 
 abbrev few_groups : Place → FooterPlan → List ColumnSpec → Result FileMeta Refusal
-few_groups place plan columns = rule.not_more place (length (group_parts 0 plan.groups)) >>= λ f. grouped place plan columns
+few_groups place plan columns = rule.check_count place (length (group_parts 0 plan.groups)) >>= λ f. grouped place plan columns
 
 abbrev rows_in : Place → ℤ → Result (Unit {0}) Refusal
-rows_in place rows = rule.not_negative place name.FileMetaData (pos 3) rows
+rows_in place rows = rule.check_not_negative place name.FileMetaData (pos 3) rows
 
 file_was : (place : Place) (plan : FooterPlan) (found : FileMeta) → rule.file_of place (plan_fields plan) ≡ Ok found → found ≡ planned_typed plan
 file_was place plan found e =
     let schema = bind_ok (rule.schema_of place (root_part (length plan.schema) ∷ map_list column_part plan.schema)) (λ columns. rows_in place plan.num_rows >>= λ c. few_groups place plan columns) found e in
     let counted = bind_ok (rows_in place plan.num_rows) (λ c. few_groups place plan schema.0) found schema.2 in
-    let few = bind_ok (rule.not_more place (length (group_parts 0 plan.groups))) (λ f. grouped place plan schema.0) found counted.2 in
+    let few = bind_ok (rule.check_count place (length (group_parts 0 plan.groups))) (λ f. grouped place plan schema.0) found counted.2 in
     let groups = bind_ok (rule.groups_of place schema.0 0 (group_parts 0 plan.groups)) (λ groups. summed place plan schema.0 groups) found few.2 in
-    let sum = bind_ok (rule.same_rows place (rule.all_rows groups.0) plan.num_rows) (λ s. Ok (file_with plan schema.0 groups.0)) found groups.2 in
+    let sum = bind_ok (rule.check_rows place (rule.all_rows groups.0) plan.num_rows) (λ s. Ok (file_with plan schema.0 groups.0)) found groups.2 in
     sym (ok_same (file_with plan schema.0 groups.0) found sum.2)
     ∙ (ap (λ columns. file_with plan columns groups.0) (schema_was place plan.schema schema.0 schema.1)
     ∙ ap (λ gs. file_with plan (map_list typed_column plan.schema) gs) (groups_were place schema.0 0 plan.groups groups.0 groups.1))
 
--- whatever the plan, where its footer is read, only byte arrays are text
+-- If the footer of any plan is read, it is the plan with only byte arrays as text.
 pub typed_plan_read :
     (place : Place) (plan : FooterPlan) (rest : List ℕ) (read : FileMeta × ℕ) → FitsFooter plan → NumbersFit (struct (file_meta_data plan))
     → file_meta_at place (written (file_meta_data plan) ++ rest) ≡ Ok read → read ≡ (planned_typed plan, length (written (file_meta_data plan)))

@@ -1,12 +1,15 @@
--- The trees of the plans have the values of the plans under their numbers.
+-- The trees of a plan hold the values of the plan under their field ids.
 use Rattle.std.proofs.Common.{◌≡◌, ℕ, ◌+◌, ℤ, pos, Bool, true, false, List, [], ◌∷◌, length, map as map_list, Option, Some, None, Ok, refl, ◌∙◌, ap}
 use Rattle.thrift_compact.specs.Tree.{struct, binary, int32, int64, list, truth, Trees, Fields, no_fields, field}
 use Rattle.parquet_types.specs.declared.column.ColumnSpec.{ColumnSpec}
 use Rattle.parquet_types.specs.declared.file_meta.AlgorithmMeta.{AlgorithmMeta}
 use Rattle.parquet_types.specs.declared.file_meta.ChunkCrypto.{ChunkCrypto}
 use Rattle.parquet_types.specs.declared.file_meta.ChunkCrypto.TheVariants as key
-use Rattle.parquet_fields.specs.declared.met.Met.{Met}
-use Rattle.parquet_fields.specs.declared.met.Met.TheVariants as met
+use Rattle.parquet_types.specs.declared.raw_footer.RawFileMeta.{RawFileMeta}
+use Rattle.parquet_types.specs.declared.raw_footer.RowGroup.{RowGroup}
+use Rattle.parquet_types.specs.declared.raw_footer.SchemaElement.{SchemaElement}
+use Rattle.parquet_fields.specs.declared.field_state.FieldState.{FieldState}
+use Rattle.parquet_fields.specs.declared.field_state.FieldState.TheVariants as state
 use Rattle.parquet_types.specs.declared.page_head.DataHead.{DataHead}
 use Rattle.parquet_types.specs.declared.page_head.PageHead.TheVariants.{Data}
 use Rattle.parquet_types.specs.declared.plan.FooterPlan.{FooterPlan}
@@ -27,14 +30,14 @@ aes_gcm_by (Some prefix) unique false = refl
 aes_gcm_by (Some prefix) unique true = refl
 
 algorithm_by : (ctr : Bool) (algorithm : AlgorithmMeta) → read.algorithm (field (algorithm_id ctr) (struct (aes_gcm algorithm)) no_fields) ≡ Ok (record { ctr = ctr; prefix = algorithm.prefix; unique = algorithm.unique; supply = algorithm.supply })
-algorithm_by false algorithm = ap (λ c. read.algorithm_of (of_checked c) met.Absent) (aes_gcm_by algorithm.prefix algorithm.unique algorithm.supply)
-algorithm_by true algorithm = ap (λ c. read.algorithm_of met.Absent (of_checked c)) (aes_gcm_by algorithm.prefix algorithm.unique algorithm.supply)
+algorithm_by false algorithm = ap (λ c. read.algorithm_of (record { gcm = of_checked c; ctr = state.Absent })) (aes_gcm_by algorithm.prefix algorithm.unique algorithm.supply)
+algorithm_by true algorithm = ap (λ c. read.algorithm_of (record { gcm = state.Absent; ctr = of_checked c })) (aes_gcm_by algorithm.prefix algorithm.unique algorithm.supply)
 
 pub algorithm_is : (algorithm : AlgorithmMeta) → read.algorithm (encryption_algorithm algorithm) ≡ Ok algorithm
 algorithm_is algorithm = algorithm_by algorithm.ctr algorithm
 
 pub file_crypto_is : (algorithm : AlgorithmMeta) (key_metadata : List ℕ) → read.file_crypto (file_crypto_meta_data algorithm key_metadata) ≡ Ok (record { algorithm = algorithm; key_metadata = Some key_metadata })
-file_crypto_is algorithm key_metadata = ap (λ c. read.file_crypto_of (of_checked c) (met.Is key_metadata)) (algorithm_is algorithm)
+file_crypto_is algorithm key_metadata = ap (λ c. read.file_crypto_of (record { algorithm = of_checked c; key_metadata = state.Value key_metadata })) (algorithm_is algorithm)
 
 pub column_meta_is : (chunk : WrittenChunk) → read.column_meta (column_meta_data chunk) ≡ Ok (chunk_meta chunk)
 column_meta_is chunk = refl
@@ -63,23 +66,23 @@ chunk_by chunk true (key.ColumnKey (Some metadata)) (Some sealed) = refl
 chunk_is : (chunk : WrittenChunk) → read.column_chunk (column_chunk chunk) ≡ Ok (chunk_part chunk)
 chunk_is chunk = chunk_by chunk chunk.show_meta chunk.crypto chunk.sealed_meta
 
--- a list of structs, each of which is read as a value
+-- A list of structs, each of which is read as a value.
 items_are :
     {A X : Type 0} (checked : Fields → Checked X) (f : A → Fields) (g : A → X)
-    → ((a : A) → checked (f a) ≡ Ok (g a)) → (xs : List A) → items_of (struct_of checked) (structs (map_list f xs)) ≡ met.Is (map_list g xs)
+    → ((a : A) → checked (f a) ≡ Ok (g a)) → (xs : List A) → items_of (struct_of checked) (structs (map_list f xs)) ≡ state.Value (map_list g xs)
 items_are checked f g each [] = refl
 items_are checked f g each (x ∷ xs) =
-    ap (λ c. onto_items (of_checked c) (items_of (struct_of checked) (structs (map_list f xs)))) (each x) ∙ ap (onto_items (met.Is (g x))) (items_are checked f g each xs)
+    ap (λ c. onto_items (of_checked c) (items_of (struct_of checked) (structs (map_list f xs)))) (each x) ∙ ap (onto_items (state.Value (g x))) (items_are checked f g each xs)
 
 group_is : (position : ℕ) (group : WrittenGroup) → read.row_group (row_group position group) ≡ Ok (group_part position group)
 group_is position group =
-    ap (λ chunks. read.row_group_of chunks (met.Is group.num_rows) (met.Is (pos position))) (items_are read.column_chunk column_chunk chunk_part chunk_is group.chunks)
+    ap (λ chunks. read.row_group_of (record { chunks = chunks; num_rows = state.Value group.num_rows; ordinal = state.Value (pos position) })) (items_are read.column_chunk column_chunk chunk_part chunk_is group.chunks)
 
-groups_are : (position : ℕ) (groups : List WrittenGroup) → items_of (struct_of read.row_group) (structs (row_groups position groups)) ≡ met.Is (group_parts position groups)
+groups_are : (position : ℕ) (groups : List WrittenGroup) → items_of (struct_of read.row_group) (structs (row_groups position groups)) ≡ state.Value (group_parts position groups)
 groups_are position [] = refl
 groups_are position (group ∷ groups) =
     ap (λ c. onto_items (of_checked c) (items_of (struct_of read.row_group) (structs (row_groups (position + 1) groups)))) (group_is position group)
-    ∙ ap (onto_items (met.Is (group_part position group))) (groups_are (position + 1) groups)
+    ∙ ap (onto_items (state.Value (group_part position group))) (groups_are (position + 1) groups)
 
 column_by :
     (k : ℤ) (size : Option ℤ) (repeated : ℤ) (name : List ℕ) (text : Bool)
@@ -93,21 +96,28 @@ column_by k (Some size) repeated name true = refl
 column_is : (column : ColumnSpec) → read.schema_element (schema_column column) ≡ Ok (column_part column)
 column_is column = column_by (kind_number column.kind) (fixed_length column.kind) (repetition column.optional) column.name column.text
 
-schema_is : (columns : List ColumnSpec) → items_of (struct_of read.schema_element) (structs (schema columns)) ≡ met.Is (root_part (length columns) ∷ map_list column_part columns)
-schema_is columns = ap (onto_items (met.Is (root_part (length columns)))) (items_are read.schema_element schema_column column_part column_is columns)
+schema_is : (columns : List ColumnSpec) → items_of (struct_of read.schema_element) (structs (schema columns)) ≡ state.Value (root_part (length columns) ∷ map_list column_part columns)
+schema_is columns = ap (onto_items (state.Value (root_part (length columns)))) (items_are read.schema_element schema_column column_part column_is columns)
 
--- what is met of a value that may be absent
-abbrev met_of : {X : Type 0} → Option X → Met X
-met_of None = met.Absent
-met_of (Some x) = met.Is x
+-- The state of an optional field.
+abbrev state_of : {X : Type 0} → Option X → FieldState X
+state_of None = state.Absent
+state_of (Some x) = state.Value x
 
-abbrev algorithm_met : Option AlgorithmMeta → Met AlgorithmMeta
-algorithm_met None = met.Absent
-algorithm_met (Some algorithm) = of_checked (read.algorithm (encryption_algorithm algorithm))
+abbrev algorithm_state : Option AlgorithmMeta → FieldState AlgorithmMeta
+algorithm_state None = state.Absent
+algorithm_state (Some algorithm) = of_checked (read.algorithm (encryption_algorithm algorithm))
 
-algorithm_met_is : (algorithm : Option AlgorithmMeta) → algorithm_met algorithm ≡ met_of algorithm
-algorithm_met_is None = refl
-algorithm_met_is (Some algorithm) = ap of_checked (algorithm_is algorithm)
+algorithm_state_is : (algorithm : Option AlgorithmMeta) → algorithm_state algorithm ≡ state_of algorithm
+algorithm_state_is None = refl
+algorithm_state_is (Some algorithm) = ap of_checked (algorithm_is algorithm)
+
+abbrev judged_file : FieldState (List SchemaElement) → FieldState ℤ → FieldState (List RowGroup) → FieldState AlgorithmMeta → FieldState (List ℕ) → Checked RawFileMeta
+judged_file schema rows groups algorithm metadata =
+    read.raw_file_meta_of (record { schema = schema; num_rows = rows; groups = groups; algorithm = algorithm; signing_key_metadata = metadata })
+
+abbrev judged_signing : FieldState AlgorithmMeta → FieldState (List ℕ) → Checked (Option AlgorithmMeta × Option (List ℕ))
+judged_signing algorithm metadata = read.signing_of (record { algorithm = algorithm; key_metadata = metadata })
 
 abbrev footer_of : Trees → ℤ → Trees → Option AlgorithmMeta → Option (List ℕ) → Fields
 footer_of columns rows groups algorithm metadata =
@@ -121,8 +131,8 @@ footer_of columns rows groups algorithm metadata =
 
 file_by :
     (columns groups : Trees) (rows : ℤ) (algorithm : Option AlgorithmMeta) (metadata : Option (List ℕ))
-    → read.file_fields (footer_of columns rows groups algorithm metadata)
-    ≡ read.file_fields_of (items_of (struct_of read.schema_element) columns) (met.Is rows) (items_of (struct_of read.row_group) groups) (algorithm_met algorithm) (met_of metadata)
+    → read.raw_file_meta (footer_of columns rows groups algorithm metadata)
+    ≡ judged_file (items_of (struct_of read.schema_element) columns) (state.Value rows) (items_of (struct_of read.row_group) groups) (algorithm_state algorithm) (state_of metadata)
 file_by columns groups rows None None = refl
 file_by columns groups rows None (Some metadata) = refl
 file_by columns groups rows (Some algorithm) None = refl
@@ -130,30 +140,30 @@ file_by columns groups rows (Some algorithm) (Some metadata) = refl
 
 file_from :
     (plan : FooterPlan) (algorithm : Option AlgorithmMeta) (metadata : Option (List ℕ))
-    → read.file_fields_of (met.Is (root_part (length plan.schema) ∷ map_list column_part plan.schema)) (met.Is plan.num_rows) (met.Is (group_parts 0 plan.groups)) (met_of algorithm) (met_of metadata)
+    → judged_file (state.Value (root_part (length plan.schema) ∷ map_list column_part plan.schema)) (state.Value plan.num_rows) (state.Value (group_parts 0 plan.groups)) (state_of algorithm) (state_of metadata)
     ≡ Ok (record { schema = root_part (length plan.schema) ∷ map_list column_part plan.schema; num_rows = plan.num_rows; groups = group_parts 0 plan.groups; algorithm = algorithm; signing_key_metadata = metadata })
 file_from plan None None = refl
 file_from plan None (Some metadata) = refl
 file_from plan (Some algorithm) None = refl
 file_from plan (Some algorithm) (Some metadata) = refl
 
-pub file_fields_are : (plan : FooterPlan) → read.file_fields (file_meta_data plan) ≡ Ok (plan_fields plan)
-file_fields_are plan =
+pub raw_file_meta_are : (plan : FooterPlan) → read.raw_file_meta (file_meta_data plan) ≡ Ok (plan_fields plan)
+raw_file_meta_are plan =
     file_by (structs (schema plan.schema)) (structs (row_groups 0 plan.groups)) plan.num_rows plan.algorithm plan.signing_key_metadata
-    ∙ (ap (λ s. read.file_fields_of s (met.Is plan.num_rows) (items_of (struct_of read.row_group) (structs (row_groups 0 plan.groups))) (algorithm_met plan.algorithm) (met_of plan.signing_key_metadata)) (schema_is plan.schema)
-    ∙ (ap (λ g. read.file_fields_of (met.Is (root_part (length plan.schema) ∷ map_list column_part plan.schema)) (met.Is plan.num_rows) g (algorithm_met plan.algorithm) (met_of plan.signing_key_metadata)) (groups_are 0 plan.groups)
-    ∙ (ap (λ a. read.file_fields_of (met.Is (root_part (length plan.schema) ∷ map_list column_part plan.schema)) (met.Is plan.num_rows) (met.Is (group_parts 0 plan.groups)) a (met_of plan.signing_key_metadata)) (algorithm_met_is plan.algorithm)
+    ∙ (ap (λ s. judged_file s (state.Value plan.num_rows) (items_of (struct_of read.row_group) (structs (row_groups 0 plan.groups))) (algorithm_state plan.algorithm) (state_of plan.signing_key_metadata)) (schema_is plan.schema)
+    ∙ (ap (λ g. judged_file (state.Value (root_part (length plan.schema) ∷ map_list column_part plan.schema)) (state.Value plan.num_rows) g (algorithm_state plan.algorithm) (state_of plan.signing_key_metadata)) (groups_are 0 plan.groups)
+    ∙ (ap (λ a. judged_file (state.Value (root_part (length plan.schema) ∷ map_list column_part plan.schema)) (state.Value plan.num_rows) (state.Value (group_parts 0 plan.groups)) a (state_of plan.signing_key_metadata)) (algorithm_state_is plan.algorithm)
     ∙ file_from plan plan.algorithm plan.signing_key_metadata)))
 
 signing_by :
     (columns groups : Trees) (rows : ℤ) (algorithm : Option AlgorithmMeta) (metadata : Option (List ℕ))
-    → read.signing (footer_of columns rows groups algorithm metadata) ≡ read.signing_of (algorithm_met algorithm) (met_of metadata)
+    → read.signing (footer_of columns rows groups algorithm metadata) ≡ judged_signing (algorithm_state algorithm) (state_of metadata)
 signing_by columns groups rows None None = refl
 signing_by columns groups rows None (Some metadata) = refl
 signing_by columns groups rows (Some algorithm) None = refl
 signing_by columns groups rows (Some algorithm) (Some metadata) = refl
 
-signing_from : (algorithm : Option AlgorithmMeta) (metadata : Option (List ℕ)) → read.signing_of (met_of algorithm) (met_of metadata) ≡ Ok (signed_by algorithm metadata)
+signing_from : (algorithm : Option AlgorithmMeta) (metadata : Option (List ℕ)) → judged_signing (state_of algorithm) (state_of metadata) ≡ Ok (signed_by algorithm metadata)
 signing_from None None = refl
 signing_from None (Some metadata) = refl
 signing_from (Some algorithm) None = refl
@@ -162,4 +172,4 @@ signing_from (Some algorithm) (Some metadata) = refl
 pub signing_is : (plan : FooterPlan) → read.signing (file_meta_data plan) ≡ Ok (signed_by plan.algorithm plan.signing_key_metadata)
 signing_is plan =
     signing_by (structs (schema plan.schema)) (structs (row_groups 0 plan.groups)) plan.num_rows plan.algorithm plan.signing_key_metadata
-    ∙ (ap (λ a. read.signing_of a (met_of plan.signing_key_metadata)) (algorithm_met_is plan.algorithm) ∙ signing_from plan.algorithm plan.signing_key_metadata)
+    ∙ (ap (λ a. judged_signing a (state_of plan.signing_key_metadata)) (algorithm_state_is plan.algorithm) ∙ signing_from plan.algorithm plan.signing_key_metadata)

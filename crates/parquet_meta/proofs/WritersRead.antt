@@ -1,4 +1,4 @@
--- What the writers wrote is read again.
+-- What the writers write is read back.
 use Rattle.std.proofs.Common.{◌≡◌, ℕ, List, length, Result, Ok, Err, IfOk, sym, subst}
 use Rattle.thrift_compact.specs.Proper.{IsSmall}
 use Rattle.parquet_types.specs.declared.file_meta.AlgorithmMeta.{AlgorithmMeta}
@@ -15,7 +15,7 @@ use Rattle.parquet_meta.proofs.PlansKeep.{file_plan_read}
 use Rattle.parquet_meta.proofs.PlansPassed.{typed_plan_read}
 use Rattle.parquet_meta.proofs.ReadBackProved.{page_head_read, file_crypto_read, column_meta_read, signing_read}
 
--- bytes that are those of a value, where a call answered Ok
+-- If a call that answers Ok gives the bytes of a value, a fact of those bytes holds for its result.
 pub ok_of_bytes : {E : Type 0} (r : Result (List ℕ) E) (bytes : List ℕ) (P : List ℕ → Type 0) → IfOk r (λ found. found ≡ bytes) → P bytes → IfOk r P
 ok_of_bytes (Ok found) bytes P is holds = subst P (sym is) holds
 ok_of_bytes (Err e) bytes P is holds = tt

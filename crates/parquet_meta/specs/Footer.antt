@@ -1,4 +1,4 @@
--- A footer: the fields of the struct at the front of bytes, and then the rules on their values.
+-- A footer: the fields of the struct at the start of the bytes, and then the rules on their values.
 use Rattle.std.specs.Prelude.{◌≡◌, ℕ, Bool, true, List, Result, Ok, IfErr}
 use Rattle.pme_base.specs.declared.place.Place.{Place}
 use Rattle.pme_base.specs.declared.refusal.Cause.{Cause}
@@ -9,19 +9,16 @@ use Rattle.parquet_types.specs.declared.file_meta.FileMeta.{FileMeta}
 use Rattle.footer_rules.specs.FileRules.{file_of}
 use Rattle.parquet_fields.specs.Calls.{struct_at}
 use Rattle.parquet_fields.specs.Causes.{is_struct_cause}
-use Rattle.parquet_fields.specs.Structs.{file_fields}
+use Rattle.parquet_fields.specs.Structs.{raw_file_meta}
 
 abbrev pub file_meta_at : Place → List ℕ → Result (FileMeta × ℕ) Refusal
 file_meta_at place bytes = do
-  read ← struct_at place file_fields bytes
+  read ← struct_at place raw_file_meta bytes
   file ← file_of place read.0
   Ok (file, read.1)
 
--- a refusal has one of the causes of a footer
+-- the causes with which reading a footer can end
 abbrev pub is_file_cause : Cause → Bool
 is_file_cause Mismatch = true
 is_file_cause TooLarge = true
 is_file_cause cause = is_struct_cause cause
-
-abbrev pub HasFileCause : {T : Type 0} → Result T Refusal → Type 0
-HasFileCause result = IfErr result (λ refusal. is_file_cause refusal.cause ≡ true)

@@ -1,4 +1,4 @@
--- A plan that keeps the rules of a footer, the footer that is read of it, and the laws that it is, and that no other is.
+-- Plans that keep the rules on footers, and the footer that is read back from the bytes of a plan.
 use Rattle.std.specs.Prelude.{◌≡◌, ℕ, ◌+◌, ◌<◌, ◌≤◌, ℤ, pos, ◌+ℤ◌, ◌≤ℤ◌, Bool, true, false, List, [], ◌∷◌, ◌++◌, length, map, Some, Ok}
 use Rattle.std.specs.FinSet.{contains, empty, insert}
 use Rattle.std.specs.Str.{is_utf8}
@@ -20,20 +20,20 @@ use Rattle.parquet_writing.specs.Plans.{file_meta_data}
 use Rattle.parquet_fields.specs.Calls.{signing_at}
 use Rattle.parquet_meta.specs.ReadBack.{NumbersFit, written, shown_meta, signed_by}
 
--- values of a fixed length have a byte, and texts are byte arrays
+-- A fixed length is at least 1 byte, and only byte arrays are text.
 abbrev pub IsKindOf : ColumnKind → Bool → Type 0
 IsKindOf kind.ByteArray text = Unit {0}
 IsKindOf (kind.Fixed length) text = (0 < length) × (text ≡ false)
 IsKindOf k text = text ≡ false
 
--- columns after those of these names: each name is text and new
+-- Columns that follow columns with the names `earlier`: each name is UTF-8 and new.
 abbrev pub AreColumns : Names → List ColumnSpec → Type 0
 AreColumns earlier [] = Unit {0}
 AreColumns earlier (column ∷ columns) =
     (is_utf8 column.name ≡ true) × (contains earlier column.name ≡ false) × IsKindOf column.kind column.text
     × AreColumns (insert earlier column.name) columns
 
--- a chunk for each column
+-- There is a column chunk for each column.
 abbrev pub AreChunksOf : List ColumnSpec → List WrittenChunk → Type 0
 AreChunksOf [] [] = Unit {0}
 AreChunksOf (column ∷ columns) (chunk ∷ chunks) = (chunk.spec.name ≡ column.name) × AreChunksOf columns chunks
@@ -47,7 +47,7 @@ abbrev pub rows_of : List WrittenGroup → ℤ
 rows_of [] = pos 0
 rows_of (group ∷ groups) = group.num_rows +ℤ rows_of groups
 
--- the plan of a file as this product lays it
+-- A plan that keeps the rules on footers, as `pme` makes it.
 pub record IsFilePlan (plan : FooterPlan) : Type 0 where
   pub columns : AreColumns empty plan.schema
   pub few_columns : length plan.schema ≤ 32768
@@ -57,7 +57,7 @@ pub record IsFilePlan (plan : FooterPlan) : Type 0 where
   pub small : plan.num_rows ≤ℤ pos 9223372036854775807
   pub summed : rows_of plan.groups ≡ plan.num_rows
 
--- the footer that is read of a plan
+-- The footer that a plan is read back as.
 abbrev pub planned_chunk : WrittenChunk → ChunkMeta
 planned_chunk chunk =
     record { crypto = chunk.crypto; plain_meta = shown_meta chunk chunk.show_meta; sealed_meta = chunk.sealed_meta }
@@ -79,13 +79,13 @@ planned plan = record {
   signing_key_metadata = plan.signing_key_metadata;
 }
 
--- a footer of such a plan is read, and as the plan
+-- The footer of a plan that keeps the rules is read back as the plan.
 abbrev pub FilePlanIsRead : Type 0
 FilePlanIsRead =
     (place : Place) (plan : FooterPlan) (rest : List ℕ) → FitsFooter plan → IsFilePlan plan → NumbersFit (struct (file_meta_data plan))
     → file_meta_at place (written (file_meta_data plan) ++ rest) ≡ Ok (planned plan, length (written (file_meta_data plan)))
 
--- texts are byte arrays
+-- Only byte arrays are text.
 abbrev pub IsTextOf : ColumnKind → Bool → Type 0
 IsTextOf kind.ByteArray text = Unit {0}
 IsTextOf k text = text ≡ false
@@ -94,7 +94,7 @@ abbrev pub AreTyped : List ColumnSpec → Type 0
 AreTyped [] = Unit {0}
 AreTyped (column ∷ columns) = IsTextOf column.kind column.text × AreTyped columns
 
--- a column as it is read: only byte arrays are text
+-- A column as it is read back: only byte arrays are text.
 abbrev pub text_of : ColumnKind → Bool → Bool
 text_of kind.ByteArray text = text
 text_of k text = false
@@ -112,25 +112,25 @@ planned_typed plan = record {
   signing_key_metadata = plan.signing_key_metadata;
 }
 
--- where each text is a byte array, that is the plan
+-- If only byte arrays are text, `planned_typed` and `planned` are the same footer.
 abbrev pub TypedIsPlanned : Type 0
 TypedIsPlanned = (plan : FooterPlan) → AreTyped plan.schema → planned_typed plan ≡ planned plan
 
--- whatever the plan: where its footer passes the rules, it is read as the plan
+-- If the footer of any plan passes the rules, it is read back as the plan.
 abbrev pub PassedPlanIsRead : Type 0
 PassedPlanIsRead =
     (place : Place) (plan : FooterPlan) (rest : List ℕ) (read : FileMeta × ℕ) → FitsFooter plan → AreTyped plan.schema → NumbersFit (struct (file_meta_data plan))
     → file_meta_at place (written (file_meta_data plan) ++ rest) ≡ Ok read → read ≡ (planned plan, length (written (file_meta_data plan)))
 
--- the bytes of a plan's footer, whatever follows them: what a reader finds there, by the rules of a footer
+-- The bytes of a plan's footer, by what a reader gets from them, whatever bytes follow.
 pub record IsFooterOf (plan : FooterPlan) (bytes : List ℕ) : Type 0 where
-  -- a plan that keeps the rules is read as the plan
+  -- A plan that keeps the rules is read back as the plan.
   pub keeps : IsFilePlan plan → (place : Place) (rest : List ℕ) → file_meta_at place (bytes ++ rest) ≡ Ok (planned plan, length bytes)
-  -- and where any plan is read at all, it is read as the plan, of whose columns only byte arrays are text
+  -- If any plan is read at all, it is read back as the plan, with only byte arrays as text.
   pub passed :
       (place : Place) (rest : List ℕ) (read : FileMeta × ℕ) → file_meta_at place (bytes ++ rest) ≡ Ok read
       → read ≡ (planned_typed plan, length bytes)
-  -- how it is signed is read of it without the rules
+  -- The signing algorithm and key are read back without the rules.
   pub signing :
       (place : Place) (rest : List ℕ) → signing_at place (bytes ++ rest)
       ≡ Ok (signed_by plan.algorithm plan.signing_key_metadata, length bytes)

@@ -1,4 +1,4 @@
--- The numbers of a plan lie in the ranges of their types, as those of every value of the program do.
+-- The numbers of a plan lie in the ranges of their types, which holds for every value in the program.
 use Rattle.std.specs.Prelude.{FitsSigned}
 use Rattle.std.specs.Int.{w32, w64}
 use Rattle.std.specs.List.{All}

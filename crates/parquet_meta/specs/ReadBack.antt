@@ -1,4 +1,4 @@
--- The values of a plan as a reader sees them, and the law that they are read again from what is written of the plan.
+-- The values of a plan as a reader gets them, and the laws that they are read back from what is written.
 use Rattle.std.specs.Prelude.{◌≡◌, ℕ, ◌+◌, ℤ, pos, Bool, true, false, FitsSigned, List, [], ◌∷◌, ◌++◌, length, map, Option, Some, None, Ok}
 use Rattle.std.specs.Int.{w8, w16, w32, w64}
 use Rattle.pme_base.specs.declared.place.Place.{Place}
@@ -11,12 +11,12 @@ use Rattle.parquet_types.specs.declared.file_meta.AlgorithmMeta.{AlgorithmMeta}
 use Rattle.parquet_types.specs.declared.file_meta.ChunkCrypto.{ChunkCrypto}
 use Rattle.parquet_types.specs.declared.file_meta.ChunkCrypto.TheVariants as key
 use Rattle.parquet_types.specs.declared.file_meta.ColumnMeta.{ColumnMeta}
-use Rattle.parquet_types.specs.declared.footer_parts.ColumnChunk.{ColumnChunk}
-use Rattle.parquet_types.specs.declared.footer_parts.ColumnCrypto.{ColumnCrypto}
-use Rattle.parquet_types.specs.declared.footer_parts.ColumnCrypto.TheVariants as crypto
-use Rattle.parquet_types.specs.declared.footer_parts.FileFields.{FileFields}
-use Rattle.parquet_types.specs.declared.footer_parts.RowGroup.{RowGroup}
-use Rattle.parquet_types.specs.declared.footer_parts.SchemaElement.{SchemaElement}
+use Rattle.parquet_types.specs.declared.raw_footer.ColumnChunk.{ColumnChunk}
+use Rattle.parquet_types.specs.declared.raw_footer.ColumnCrypto.{ColumnCrypto}
+use Rattle.parquet_types.specs.declared.raw_footer.ColumnCrypto.TheVariants as crypto
+use Rattle.parquet_types.specs.declared.raw_footer.RawFileMeta.{RawFileMeta}
+use Rattle.parquet_types.specs.declared.raw_footer.RowGroup.{RowGroup}
+use Rattle.parquet_types.specs.declared.raw_footer.SchemaElement.{SchemaElement}
 use Rattle.parquet_types.specs.declared.page_head.DataHead.{DataHead}
 use Rattle.parquet_types.specs.declared.page_head.PageHead.TheVariants.{Data}
 use Rattle.parquet_types.specs.declared.plan.FooterPlan.{FooterPlan}
@@ -27,9 +27,9 @@ use Rattle.parquet_meta.specs.Footer.{file_meta_at}
 use Rattle.footer_rules.specs.FileRules.{file_of}
 use Rattle.parquet_writing.specs.Fitting.{FitsAlgorithm, FitsChunk, FitsFooter}
 use Rattle.parquet_writing.specs.Plans.{page_header, file_crypto_meta_data, kind_number, column_meta_data, fixed_length, repetition, file_meta_data}
-use Rattle.parquet_fields.specs.Structs.{file_fields}
+use Rattle.parquet_fields.specs.Structs.{raw_file_meta}
 
--- each number lies in the range of its type
+-- Each number lies in the range of its type.
 abbrev mutual
   pub NumbersFit : Tree → Type 0
   NumbersFit (truth t) = Unit {0}
@@ -52,11 +52,11 @@ abbrev mutual
   FieldsFit no_fields = Unit {0}
   FieldsFit (field id t fs) = NumbersFit t × FieldsFit fs
 
--- the bytes of a struct
+-- The bytes that are written for a struct.
 abbrev pub written : Fields → List ℕ
 written fs = canonical (struct fs)
 
--- the metadata of a chunk
+-- The metadata of a column chunk.
 abbrev pub chunk_meta : WrittenChunk → ColumnMeta
 chunk_meta chunk = record {
   kind = kind_number chunk.spec.kind;
@@ -92,7 +92,7 @@ abbrev pub group_parts : ℕ → List WrittenGroup → List RowGroup
 group_parts position [] = []
 group_parts position (group ∷ groups) = group_part position group ∷ group_parts (position + 1) groups
 
--- the root and the columns of a schema
+-- The root and the columns of a schema.
 abbrev pub root_part : ℕ → SchemaElement
 root_part columns = record {
   kind = None;
@@ -117,7 +117,7 @@ column_part column = record {
   converted = converted_part column.text;
 }
 
-abbrev pub plan_fields : FooterPlan → FileFields
+abbrev pub plan_fields : FooterPlan → RawFileMeta
 plan_fields plan = record {
   schema = root_part (length plan.schema) ∷ map column_part plan.schema;
   num_rows = plan.num_rows;
@@ -126,12 +126,12 @@ plan_fields plan = record {
   signing_key_metadata = plan.signing_key_metadata;
 }
 
--- how a footer is signed: no key where there is no algorithm
+-- The signing algorithm and key of a footer: no key if there is no algorithm.
 abbrev pub signed_by : Option AlgorithmMeta → Option (List ℕ) → Option AlgorithmMeta × Option (List ℕ)
 signed_by None metadata = (None, None)
 signed_by (Some algorithm) metadata = (Some algorithm, metadata)
 
--- bytes from which a value is read, whatever follows them
+-- Bytes from which a value is read, whatever bytes follow.
 abbrev pub IsPageHeadOf : DataHead → List ℕ → Type 0
 IsPageHeadOf head bytes = (place : Place) (rest : List ℕ) → page_head_at place (bytes ++ rest) ≡ Ok (Data head, length bytes)
 
@@ -143,7 +143,7 @@ IsFileCryptoOf algorithm key_metadata bytes =
 abbrev pub IsColumnMetaOf : WrittenChunk → List ℕ → Type 0
 IsColumnMetaOf chunk bytes = (place : Place) (rest : List ℕ) → column_meta_at place (bytes ++ rest) ≡ Ok (chunk_meta chunk)
 
--- the header of a page is read again, whatever follows it
+-- A page header is read back, whatever bytes follow.
 abbrev pub PageHeadIsRead : Type 0
 PageHeadIsRead =
     (place : Place) (head : DataHead) (rest : List ℕ) → NumbersFit (struct (page_header head))
@@ -160,13 +160,13 @@ ColumnMetaIsRead =
     (place : Place) (chunk : WrittenChunk) (rest : List ℕ) → FitsChunk chunk → NumbersFit (struct (column_meta_data chunk))
     → column_meta_at place (written (column_meta_data chunk) ++ rest) ≡ Ok (chunk_meta chunk)
 
--- the fields of a footer are those of its plan
-abbrev pub FileFieldsAreRead : Type 0
-FileFieldsAreRead =
+-- The fields of a footer are read back as those of its plan.
+abbrev pub RawFileMetaIsRead : Type 0
+RawFileMetaIsRead =
     (place : Place) (plan : FooterPlan) (rest : List ℕ) → FitsFooter plan → NumbersFit (struct (file_meta_data plan))
-    → struct_at place file_fields (written (file_meta_data plan) ++ rest) ≡ Ok (plan_fields plan, length (written (file_meta_data plan)))
+    → struct_at place raw_file_meta (written (file_meta_data plan) ++ rest) ≡ Ok (plan_fields plan, length (written (file_meta_data plan)))
 
--- so the footer is read as those fields, by the rules on them
+-- The footer is read back as the result of the rules on those fields.
 abbrev pub FileMetaIsRead : Type 0
 FileMetaIsRead =
     (place : Place) (plan : FooterPlan) (rest : List ℕ) → FitsFooter plan → NumbersFit (struct (file_meta_data plan))

@@ -1,6 +1,6 @@
-// What a Parquet file's metadata holds: the structs of `parquet.thrift` that a reader of columns looks at, as types,
-// read from their bytes with the first refusal by a fixed order, and written in canonical spelling. The types, the
-// fields, the rules and the writing stand in crates of their own; here they are joined, and what is written is read.
+//! A Parquet file's metadata: the structs of `parquet.thrift` as types, read from their bytes with one fixed order of
+//! refusals, and written in canonical spelling. The crates of the types, the fields, the rules and the writers are
+//! joined here, and here is proved that what is written is read back.
 #![tactic(auto)]
 
 mod footer;

@@ -1,10 +1,10 @@
-// The numbers of a plan lie in the ranges of their types. A contract speaks of values as numbers without a range, so a
-// function that reads each of them says so of a whole plan.
+// The numbers of a plan lie in the ranges of their types. Contracts see numbers without a range, so these functions,
+// which read each number of a plan, prove it for the whole plan.
 ghost use Rattle.parquet_meta.specs.Ranges.{HeadInRange, ChunkInRange, GroupInRange, PlanInRange};
 
 use parquet_types::{DataHead, FooterPlan, WrittenChunk, WrittenGroup};
 
-/// What `HeadInRange` says of the header of a page.
+/// Proves that the numbers of a page header are in range.
 pub fn head_in_range(head: &DataHead)
     ensures { HeadInRange head.now }
 {
@@ -15,7 +15,7 @@ pub fn head_in_range(head: &DataHead)
     let _level_encoding = head.level_encoding;
 }
 
-/// What `ChunkInRange` says of a chunk.
+/// Proves that the numbers of a column chunk are in range.
 pub fn chunk_in_range(chunk: &WrittenChunk)
     ensures { ChunkInRange chunk.now }
 {
@@ -35,7 +35,7 @@ fn group_in_range(group: &WrittenGroup)
     }
 }
 
-/// What `PlanInRange` says of a plan.
+/// Proves that the numbers of a plan are in range.
 pub fn plan_in_range(plan: &FooterPlan)
     ensures { PlanInRange plan.now }
 {

@@ -1,4 +1,4 @@
--- The refusal of a field: its cause, its struct and its number.
+-- The refusal of a field: its cause, its struct and its field id.
 use Rattle.std.specs.Prelude.{ℤ}
 use Rattle.pme_base.specs.declared.place.Place.{Place}
 use Rattle.pme_base.specs.declared.refusal.Cause.{Cause}
@@ -11,6 +11,6 @@ use Rattle.parquet_types.specs.declared.field_refusals.FieldRefusal.{FieldRefusa
 abbrev pub refused : Cause → StructName → ℤ → FieldRefusal
 refused cause name number = record { cause = cause; name = name; field = number }
 
--- the same at a place
+-- The refusal of a field at a place.
 abbrev pub field_refusal : Place → FieldRefusal → Refusal
 field_refusal place r = refusal_at r.cause place 0 (Field r.name r.field)

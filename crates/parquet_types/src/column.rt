@@ -1,3 +1,4 @@
+// The columns of a flat schema.
 use pme_base::{Bytes, Sequence};
 
 /// The physical type of a column, as `parquet.thrift`'s `Type` names it.
@@ -10,12 +11,12 @@ pub enum ColumnKind {
     Float,
     Double,
     ByteArray,
-    /// A byte array of this many bytes.
+    /// A byte array of fixed length, in bytes.
     Fixed(u32),
 }
 
-/// A column of a flat schema: its name, its physical type, whether it may hold nulls, and whether its bytes are
-/// text in UTF-8.
+/// A column of a flat schema: its name, its physical type, whether its values may be null, and whether they are
+/// annotated as UTF-8 text.
 #[derive(Debug, Drop)]
 pub struct ColumnSpec {
     pub name: Bytes,

@@ -1,9 +1,10 @@
+// The refusal of a field of a struct.
 ghost use Rattle.std.specs.Prelude.{◌≡◌};
 ghost use Rattle.parquet_types.specs.FieldRefusals as defined;
 
 use pme_base::{Cause, Detail, Place, Refusal, StructName, refusal_at};
 
-/// A field that is missing, bad or unsupported: the cause, the struct, and the field's number in it.
+/// Why a field of a struct is refused: the cause (missing, bad or unsupported), the struct, and the field id.
 #[derive(Clone, Copy, Debug, PartialEq, Eq, Drop)]
 pub struct FieldRefusal {
     pub cause: Cause,
@@ -11,7 +12,7 @@ pub struct FieldRefusal {
     pub field: i16,
 }
 
-/// The refusal of a field at a place.
+/// The refusal of a field of the metadata at `place`.
 pub fn field_refusal(place: Place, refused: FieldRefusal) -> Refusal
     ensures { result ≡ defined.field_refusal place refused }
 {

@@ -1,11 +1,13 @@
+// A footer as a reader gets it, after the rules on its values.
 use crate::column::FlatSchema;
 use pme_base::{Bytes, Sequence};
 
 /// The names of a column's path, outermost first.
 pub type PathList = Sequence<Bytes>;
 
-/// The algorithm that seals a file's modules: AES_GCM_CTR_V1 where `ctr`, else AES_GCM_V1; with the prefix of the
-/// associated data where the file stores it, the file's own part of it, and whether a reader must supply the prefix.
+/// The algorithm that encrypts a file's modules: AES_GCM_CTR_V1 if `ctr`, else AES_GCM_V1. `prefix` is the AAD prefix
+/// if the file stores it, `unique` the file's own part of the AAD, and `supply` says that the reader must supply the
+/// prefix.
 #[derive(Debug, Drop)]
 pub struct AlgorithmMeta {
     pub ctr: bool,
@@ -14,14 +16,14 @@ pub struct AlgorithmMeta {
     pub supply: bool,
 }
 
-/// What stands in front of an encrypted footer.
+/// FileCryptoMetaData, which precedes an encrypted footer.
 #[derive(Debug, Drop)]
 pub struct FileCrypto {
     pub algorithm: AlgorithmMeta,
     pub key_metadata: Option<Bytes>,
 }
 
-/// The key of a column chunk: none, the footer's, or one of its own with the metadata by which it is found.
+/// The key of a column chunk: none, the footer key, or a column key with its key metadata.
 #[derive(Debug, Drop)]
 pub enum ChunkCrypto {
     Plain,
@@ -29,7 +31,7 @@ pub enum ChunkCrypto {
     ColumnKey(Option<Bytes>),
 }
 
-/// The metadata of a column chunk. Offsets and counts are in bytes and in values.
+/// The metadata of a column chunk. Offsets are in bytes from the start of the file; `num_values` counts nulls too.
 #[derive(Debug, Drop)]
 pub struct ColumnMeta {
     pub kind: i32,
@@ -40,7 +42,8 @@ pub struct ColumnMeta {
     pub dictionary_page_offset: Option<i64>,
 }
 
-/// A column chunk: its key, its metadata where they stand in the footer, and their sealed module where there is one.
+/// A column chunk: its key, its metadata if they stand in plain in the footer, and its encrypted ColumnMetaData
+/// module if there is one.
 #[derive(Debug, Drop)]
 pub struct ChunkMeta {
     pub crypto: ChunkCrypto,
@@ -48,10 +51,10 @@ pub struct ChunkMeta {
     pub sealed_meta: Option<Bytes>,
 }
 
-/// The chunks of a row group, in the order of the columns.
+/// The column chunks of a row group, in the order of the columns.
 pub type ChunkList = Sequence<ChunkMeta>;
 
-/// A row group.
+/// A row group that has passed the rules on footers.
 #[derive(Debug, Drop)]
 pub struct RowGroupMeta {
     pub chunks: ChunkList,
@@ -62,7 +65,7 @@ pub struct RowGroupMeta {
 /// The row groups of a file, in order.
 pub type GroupList = Sequence<RowGroupMeta>;
 
-/// A file's footer.
+/// A footer that has passed the rules on footers.
 #[derive(Debug, Drop)]
 pub struct FileMeta {
     pub schema: FlatSchema,

@@ -1,4 +1,6 @@
-/// The header of a data page. Sizes are in bytes; the encodings are numbers of `parquet.thrift`'s `Encoding`.
+// Page headers.
+
+/// The header of a data page. Sizes are in bytes; encodings are the numbers of `Encoding` in `parquet.thrift`.
 #[derive(Clone, Copy, Debug, PartialEq, Eq, Drop)]
 pub struct DataHead {
     pub uncompressed: i32,
@@ -8,7 +10,7 @@ pub struct DataHead {
     pub level_encoding: i32,
 }
 
-/// The header of a dictionary page.
+/// The header of a dictionary page, with sizes and encoding as in `DataHead`.
 #[derive(Clone, Copy, Debug, PartialEq, Eq, Drop)]
 pub struct DictionaryHead {
     pub uncompressed: i32,

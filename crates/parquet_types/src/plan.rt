@@ -1,10 +1,11 @@
+// The plan of a footer that is to be written.
 use crate::column::{ColumnSpec, FlatSchema};
 use crate::file_meta::{AlgorithmMeta, ChunkCrypto};
 use pme_base::{Bytes, Sequence};
 
-/// A column chunk as it was written. `uncompressed` counts the bytes of its headers and bodies in plain, `stored` its
-/// bytes in the file, and `start` is its offset there. `sealed_meta` is the module of its sealed metadata, and
-/// `show_meta` says whether they stand in plain in the footer.
+/// A column chunk as it was written. `uncompressed` is the size of its page headers and bodies before encryption,
+/// `stored` its size in the file, and `start` its offset there, all in bytes. `sealed_meta` is its encrypted
+/// ColumnMetaData module, and `show_meta` says whether its metadata also stand in plain in the footer.
 #[derive(Debug, Drop)]
 pub struct WrittenChunk {
     pub spec: ColumnSpec,
@@ -17,7 +18,7 @@ pub struct WrittenChunk {
     pub show_meta: bool,
 }
 
-/// The chunks of a row group, in the order of the columns.
+/// The column chunks of a row group, in the order of the columns.
 pub type WrittenChunks = Sequence<WrittenChunk>;
 
 /// A row group as it was written.
@@ -30,8 +31,7 @@ pub struct WrittenGroup {
 /// The row groups of a file, in order.
 pub type WrittenGroups = Sequence<WrittenGroup>;
 
-/// What a footer says of a file that was written. With a signed footer it has the algorithm and the metadata of the key
-/// that signs.
+/// What the footer of a written file holds. `algorithm` and `signing_key_metadata` are set if the footer is signed.
 #[derive(Debug, Drop)]
 pub struct FooterPlan {
     pub schema: FlatSchema,

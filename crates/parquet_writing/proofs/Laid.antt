@@ -1,4 +1,5 @@
--- A tree whose ids ascend, within the limits of sizes and depth: its canonical spelling is its spelling.
+-- Trees with ascending field ids, within the limits on size and depth: what the writer makes of them is their
+-- canonical spelling.
 use Rattle.std.proofs.Common.{◌≡◌, ℕ, suc, ℤ, pos, int_lt, Bool, true, ◌&&◌, FitsSigned, w16, [], length, refl, ◌∙◌, ap, subst, arith}
 use Rattle.std.proofs.lemmas.Int.{ints}
 use Rattle.thrift_compact.specs.declared.kind.TKind.{TKind}
@@ -10,7 +11,7 @@ use Rattle.thrift_compact.specs.View.{fields_of}
 use Rattle.thrift_compact.proofs.Arranged.{ascending_new}
 use Rattle.thrift_compact.proofs.Selection.{ascending_stays}
 
--- an id of 16 bits
+-- A field id has 16 bits.
 abbrev pub is_id : ℤ → Bool
 is_id id = int_lt below_ids id && int_lt id (pos 32768)
 
@@ -28,12 +29,12 @@ abbrev mutual
   IsLaid room (set ts) = ⊥
   IsLaid room (map ps) = ⊥
 
-  -- fields behind the id `last`
+  -- Fields that follow the id `last`.
   pub AreLaid : ℕ → ℤ → Fields → Type 0
   AreLaid room last no_fields = Unit {0}
   AreLaid room last (field id t fs) = (is_id id ≡ true) × (int_lt last id ≡ true) × IsLaid room t × AreLaid room id fs
 
-  -- items of one kind
+  -- Items of one type.
   pub AllLaid : ℕ → TKind → Trees → Type 0
   AllLaid room k no_trees = Unit {0}
   AllLaid room k (tree t ts) = (element_kind t ≡ k) × IsLaid room t × AllLaid room k ts
@@ -70,7 +71,7 @@ mutual
 pub laid_canonical : (room : ℕ) (t : Tree) → IsLaid room t → canonical t ≡ spelling t
 laid_canonical room t laid = ap spelling (stays room t laid)
 
--- it is proper
+-- Such a tree is proper.
 of_kind : (room : ℕ) (k : TKind) (ts : Trees) → AllLaid room k ts → AllOfKind k ts
 of_kind room k no_trees laid = tt
 of_kind room k (tree t ts) laid = (laid.0, of_kind room k ts laid.2)

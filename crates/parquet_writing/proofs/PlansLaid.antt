@@ -1,4 +1,4 @@
--- The trees of the plans have ascending ids, and keep the limits where the plans fit.
+-- The trees of a plan have ascending field ids, and keep the limits if the plan does.
 use Rattle.std.proofs.Common.{◌≡◌, ℕ, suc, ◌+◌, ◌<◌, ℤ, pos, int_lt, Bool, true, false, List, [], ◌∷◌, length, map as map_list, Option, Some, None, refl, sym, ◌∙◌, ap, subst, arith}
 use Rattle.std.specs.List.{All}
 use Rattle.std.proofs.lemmas.Int.{ints}
@@ -19,12 +19,12 @@ use Rattle.parquet_types.specs.declared.page_head.DataHead.{DataHead}
 use Rattle.parquet_types.specs.declared.plan.FooterPlan.{FooterPlan}
 use Rattle.parquet_types.specs.declared.plan.WrittenChunk.{WrittenChunk}
 use Rattle.parquet_types.specs.declared.plan.WrittenGroup.{WrittenGroup}
-use Rattle.parquet_writing.specs.Fitting.{AreFew, FitsAlgorithm, FitsColumn, FitsCrypto, FitsChunk, FitsGroup, FitsIfSome, FitsFooter}
+use Rattle.parquet_writing.specs.Fitting.{FitsOptional, FitsAlgorithm, FitsColumn, FitsCrypto, FitsChunk, FitsGroup, FitsIfSome, FitsFooter}
 use Rattle.parquet_writing.specs.Plans.{where_some, where_true, structs, data_page_header, page_header, aes_gcm, algorithm_id, encryption_algorithm, file_crypto_meta_data, path_in_schema, column_meta_data, column_key, column_crypto, column_chunk, row_group, row_groups, schema_root, schema_column, schema, signing_algorithm, fixed_length, file_meta_data}
 use Rattle.parquet_writing.proofs.PutLists.{groups_length}
 use Rattle.parquet_writing.proofs.Laid.{IsLaid, AreLaid, AllLaid, is_id}
 
--- fields behind an id may stand behind an earlier one
+-- Fields that may follow an id may follow a smaller one.
 above : (low high next : ℤ) → int_lt low high ≡ true → int_lt high next ≡ true → int_lt low next ≡ true
 above low high next first second = grind (arith, ints, first, second)
 
@@ -32,7 +32,7 @@ earlier : (room : ℕ) (low high : ℤ) (fs : Fields) → int_lt low high ≡ tr
 earlier room low high no_fields up laid = tt
 earlier room low high (field id t fs) up laid = (laid.0, above low high id up laid.1, laid.2, laid.3)
 
--- the value of a field that may be absent
+-- The value of an optional field.
 abbrev pub LaidIfSome : {X : Type 0} → ℕ → (X → Tree) → Option X → Type 0
 LaidIfSome room value None = Unit {0}
 LaidIfSome room value (Some x) = IsLaid room (value x)
@@ -45,7 +45,7 @@ pub true_laid : (room : ℕ) (last id : ℤ) (t : Tree) (flag : Bool) (others : 
 true_laid room last id t false others is up one laid = earlier room last id others up laid
 true_laid room last id t true others is up one laid = (is, up, one, laid)
 
-pub few_laid : (room : ℕ) (bytes : Option (List ℕ)) → AreFew bytes → LaidIfSome room binary bytes
+pub few_laid : (room : ℕ) (bytes : Option (List ℕ)) → FitsOptional bytes → LaidIfSome room binary bytes
 few_laid room None few = few
 few_laid room (Some bytes) few = few
 
@@ -94,7 +94,7 @@ column_meta_laid room chunk few = (
   ),
 )
 
-column_key_laid : (room : ℕ) (name : List ℕ) (metadata : Option (List ℕ)) → IsSmall (length name) → AreFew metadata → AreLaid (suc room) below_ids (column_key name metadata)
+column_key_laid : (room : ℕ) (name : List ℕ) (metadata : Option (List ℕ)) → IsSmall (length name) → FitsOptional metadata → AreLaid (suc room) below_ids (column_key name metadata)
 column_key_laid room name metadata few fits =
     (refl, refl, path_laid room name few, some_laid (suc room) (pos 1) (pos 2) binary metadata no_fields refl refl (few_laid (suc room) metadata fits) tt)
 
@@ -111,7 +111,7 @@ column_chunk_laid room chunk fits =
     let crypto = some_laid within (pos 3) (pos 8) struct (column_crypto chunk.spec.name chunk.crypto) _ refl refl (column_crypto_laid room chunk.spec.name chunk.crypto fits.name fits.crypto) sealed in
     (within, refl, (refl, refl, tt, true_laid within (pos 2) (pos 3) (struct (column_meta_data chunk)) chunk.show_meta _ refl refl (column_meta_laid (suc room) chunk fits.name) crypto))
 
--- lists of structs
+-- Lists of structs.
 structs_laid : (room : ℕ) (fss : List Fields) → All (λ fs. IsLaid room (struct fs)) fss → AllLaid room kind.Struct (structs fss)
 structs_laid room [] all = tt
 structs_laid room (fs ∷ fss) all =

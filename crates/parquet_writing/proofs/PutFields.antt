@@ -1,4 +1,4 @@
--- What a struct's fields and its stop byte spell, as they are written one after the other.
+-- The bytes of a struct's fields and stop byte, as they are written one after the other.
 use Rattle.std.proofs.Common.{◌≡◌, ℕ, ℤ, pos, ◌+ℤ◌, ◌<ℤ◌, arith, Bool, true, false, List, [], ◌∷◌, ◌++◌, Option, Some, None, refl, ◌∙◌, ap}
 use Rattle.thrift_compact.specs.declared.kind.TKind.{TKind}
 use Rattle.thrift_compact.specs.declared.kind.TKind.TheVariants as kind
@@ -13,7 +13,7 @@ use Rattle.thrift_compact.proofs.Written.{draft, past_head, past_value}
 use Rattle.parquet_writing.specs.Putting.{with_value, with_fields, IsUpTo}
 use Rattle.parquet_writing.specs.Plans.{where_some, where_true}
 
--- the fields and the stop byte
+-- The fields and the stop byte.
 pub ended :
     (fs : Fields) (last : Option ℤ) (out : List ℕ) (outer : List Part)
     → after call.struct_end (with_fields fs (draft out (part.Struct last) outer)) ≡ resumed (out ++ fields_spelling (id_before (part.Struct last)) fs) outer
@@ -22,24 +22,24 @@ ended (field id t fs) last out outer =
     let head = field_head_of (id_before (part.Struct last)) id (kind_of_tree t) in
     ended fs (Some id) (out ++ (head ++ spelling t)) outer ∙ ap (λ o. resumed o outer) (past_value out head (spelling t) (fields_spelling id fs))
 
--- a struct that is a field
+-- A struct as a field.
 pub field_written : (id : ℤ) (fs : Fields) (d : Draft) → after call.struct_end (with_fields fs (after (call.struct_field id) d)) ≡ with_value id (struct fs) d
 field_written id fs d =
     let head = field_head_of (id_before d.inner) id kind.Struct in
     ended fs None (d.out ++ (head ++ [])) (part.Struct (Some id) ∷ d.outer)
     ∙ ap (λ o. draft o (part.Struct (Some id)) d.outer) (past_head d.out head (fields_spelling (pos 0) fs))
 
--- a struct that is an item
+-- A struct as an item of a list.
 pub item_written :
     (fs : Fields) (k : TKind) (n : ℕ) (out : List ℕ) (outer : List Part)
     → after call.struct_end (with_fields fs (after call.struct_begin (draft out (part.List k n) outer))) ≡ with_item (spelling (struct fs)) (draft out (part.List k n) outer)
 item_written fs k n out outer = ended fs None out _
 
--- a struct that stands alone
+-- A struct that is not inside another value.
 pub struct_written : (fs : Fields) → after call.struct_end (with_fields fs (after call.struct_begin new_draft)) ≡ finished (spelling (struct fs))
 struct_written fs = ended fs None [] []
 
--- a struct that is begun, its fields put and ended
+-- A struct is begun, its fields are written, and it is ended.
 pub field_put :
     (id : ℤ) (fs : Fields) (d begun filled over : Draft)
     → begun ≡ after (call.struct_field id) d → filled ≡ with_fields fs begun → over ≡ after call.struct_end filled → over ≡ with_value id (struct fs) d
@@ -52,7 +52,7 @@ pub struct_put :
 struct_put fs start begun filled over new first second third =
     third ∙ (ap (after call.struct_end) (second ∙ ap (with_fields fs) (first ∙ ap (after call.struct_begin) new)) ∙ struct_written fs)
 
--- what may follow an id may follow in front of a greater one
+-- What may follow an id may follow a smaller one.
 pub follows_later : (id next : ℤ) (inner : Part) → Follows id inner → id <ℤ next → Follows next inner
 follows_later id next (part.Struct None) follows above = tt
 follows_later id next (part.Struct (Some last)) follows above = omega (arith, ints, follows, above)
@@ -60,14 +60,14 @@ follows_later id next part.Start follows above = absurd follows
 follows_later id next part.End follows above = absurd follows
 follows_later id next (part.List k n) follows above = absurd follows
 
--- where fields may follow a struct is open
+-- If fields may follow, a struct is open.
 pub in_struct_still : (id : ℤ) (inner : Part) → IsUpTo id inner → IsStruct inner
 in_struct_still id (part.Struct last) upto = tt
 in_struct_still id part.Start upto = upto (id +ℤ pos 1) (omega (arith, ints))
 in_struct_still id part.End upto = upto (id +ℤ pos 1) (omega (arith, ints))
 in_struct_still id (part.List k n) upto = upto (id +ℤ pos 1) (omega (arith, ints))
 
--- a field that may be absent, before others
+-- An optional field before other fields.
 pub some_first : {X : Type 0} (id : ℤ) (value : X → Tree) (o : Option X) (others : Fields) (d : Draft) → with_fields (where_some id value o others) d ≡ with_fields others (with_fields (where_some id value o no_fields) d)
 some_first id value None others d = refl
 some_first id value (Some x) others d = refl

@@ -1,4 +1,4 @@
--- A list of structs, as it is written item by item.
+-- A list of structs, written item by item.
 use Rattle.std.proofs.Common.{◌≡◌, ℕ, zero, suc, ◌<◌, get_or, drop, map, ◌+◌, ◌-◌, ◌≤◌, ℤ, arith, List, [], ◌∷◌, ◌++◌, append_assoc, append-nil, length, refl, sym, ◌∙◌, ap, subst, Some}
 use Rattle.std.proofs.Math.Seq.{drop-cons}
 use Rattle.std.proofs.Math.Numerals.{add-one}
@@ -30,7 +30,7 @@ item_by fs k out part.End outer awaits = absurd awaits
 item_by fs k out (part.Struct last) outer awaits = absurd awaits
 item_by fs k out (part.List items n) outer awaits = item_written fs items n out outer
 
--- an item that is begun, its fields put and ended
+-- An item is begun, its fields are written, and it is ended.
 pub item_put :
     (fs : Fields) (k : TKind) (d begun filled over : Draft)
     → Awaits k d.inner → begun ≡ after call.struct_begin d → filled ≡ with_fields fs begun → over ≡ after call.struct_end filled
@@ -38,8 +38,8 @@ pub item_put :
 item_put fs k d begun filled over awaits first second third =
     third ∙ (ap (after call.struct_end) (second ∙ ap (with_fields fs) first) ∙ item_by fs k d.out d.inner d.outer awaits)
 
--- these structs are still to be written, and then this will be written; the list is in so many others
-pub record IsBehind (fss : List Fields) (target : Draft) (room : ℕ) (now : Draft) : Type 0 where
+-- The structs `fss` of a list are still to be written, which then gives `target`; `room` is the depth of the list.
+pub record StillToWrite (fss : List Fields) (target : Draft) (room : ℕ) (now : Draft) : Type 0 where
   pub out : List ℕ
   pub outer : List Part
   pub is : now ≡ resumed out (part.List kind.Struct (length fss) ∷ outer)
@@ -60,7 +60,7 @@ structs_count (fs ∷ fss) = ap suc (structs_count fss)
 
 pub list_begun :
     (id : ℤ) (fss : List Fields) (d now : Draft) (n : ℕ)
-    → n ≡ length fss → now ≡ after (call.list_field id kind.Struct n) d → IsBehind fss (with_value id (list (structs fss)) d) (length d.outer + 1) now
+    → n ≡ length fss → now ≡ after (call.list_field id kind.Struct n) d → StillToWrite fss (with_value id (list (structs fss)) d) (length d.outer + 1) now
 list_begun id fss d now n counted begun =
     let head = field_head_of (id_before d.inner) id kind.List in
     let named = list_head_of (named_kind kind.Struct n) n in
@@ -74,10 +74,10 @@ list_begun id fss d now n counted begun =
       deep = omega arith;
     }
 
-pub item_awaited : (fs : Fields) (fss : List Fields) (target : Draft) (room : ℕ) (now : Draft) → IsBehind (fs ∷ fss) target room now → Awaits kind.Struct now.inner
+pub item_awaited : (fs : Fields) (fss : List Fields) (target : Draft) (room : ℕ) (now : Draft) → StillToWrite (fs ∷ fss) target room now → Awaits kind.Struct now.inner
 item_awaited fs fss target room now behind = subst (λ d. Awaits kind.Struct d.inner) (sym behind.is) (refl, omega arith)
 
-pub item_deep : (fs : Fields) (fss : List Fields) (target : Draft) (room : ℕ) (now : Draft) → IsBehind (fs ∷ fss) target room now → length now.outer ≡ room
+pub item_deep : (fs : Fields) (fss : List Fields) (target : Draft) (room : ℕ) (now : Draft) → StillToWrite (fs ∷ fss) target room now → length now.outer ≡ room
 item_deep fs fss target room now behind = ap (λ d. length d.outer) behind.is ∙ behind.deep
 
 one_fewer : (n : ℕ) → suc n - 1 ≡ n
@@ -85,7 +85,7 @@ one_fewer n = omega arith
 
 pub item_behind :
     (fs : Fields) (fss : List Fields) (target : Draft) (room : ℕ) (now next : Draft)
-    → IsBehind (fs ∷ fss) target room now → next ≡ with_item (spelling (struct fs)) now → IsBehind fss target room next
+    → StillToWrite (fs ∷ fss) target room now → next ≡ with_item (spelling (struct fs)) now → StillToWrite fss target room next
 item_behind fs fss target room now next behind put =
     let n = length fss in
     record {
@@ -96,38 +96,38 @@ item_behind fs fss target room now next behind put =
       deep = behind.deep;
     }
 
-pub list_over : (target : Draft) (room : ℕ) (now : Draft) → IsBehind [] target room now → now ≡ target
+pub list_over : (target : Draft) (room : ℕ) (now : Draft) → StillToWrite [] target room now → now ≡ target
 list_over target room now behind = behind.is ∙ (ap (λ o. resumed o behind.outer) (sym (append-nil behind.out)) ∙ behind.later)
 
--- the item at an index, before those behind it
+-- The items from an index on are the item there and those after it.
 pub drop_here : {A : Type 0} (xs : List A) (i : ℕ) (x : A) → i < length xs → x ≡ get_or xs i x → drop i xs ≡ x ∷ drop (i + 1) xs
 drop_here xs i x within is =
     drop-cons xs i x within ∙ (ap (λ y. y ∷ drop (suc i) xs) (sym is) ∙ ap (λ n. x ∷ drop n xs) (sym (add-one i)))
 
 pub mapped_here :
     {A : Type 0} (f : A → Fields) (xs : List A) (i : ℕ) (x : A) (target : Draft) (room : ℕ) (now : Draft)
-    → i < length xs → x ≡ get_or xs i x → IsBehind (map f (drop i xs)) target room now → IsBehind (f x ∷ map f (drop (i + 1) xs)) target room now
+    → i < length xs → x ≡ get_or xs i x → StillToWrite (map f (drop i xs)) target room now → StillToWrite (f x ∷ map f (drop (i + 1) xs)) target room now
 mapped_here f xs i x target room now within is behind =
-    subst (λ fss. IsBehind fss target room now) (ap (map f) (drop_here xs i x within is)) behind
+    subst (λ fss. StillToWrite fss target room now) (ap (map f) (drop_here xs i x within is)) behind
 
 pub mapped_over :
     {A : Type 0} (f : A → Fields) (xs : List A) (i : ℕ) (target : Draft) (room : ℕ) (now : Draft)
-    → length xs ≤ i → IsBehind (map f (drop i xs)) target room now → now ≡ target
+    → length xs ≤ i → StillToWrite (map f (drop i xs)) target room now → now ≡ target
 mapped_over f xs i target room now past behind =
-    list_over target room now (subst (λ fss. IsBehind fss target room now) (ap (map f) (drop_all i xs past)) behind)
+    list_over target room now (subst (λ fss. StillToWrite fss target room now) (ap (map f) (drop_all i xs past)) behind)
 
--- the same of row groups, each at its position
+-- Row groups from a position on, as for other lists.
 pub grouped_here :
     (gs : List WrittenGroup) (i : ℕ) (g : WrittenGroup) (target : Draft) (room : ℕ) (now : Draft)
-    → i < length gs → g ≡ get_or gs i g → IsBehind (row_groups i (drop i gs)) target room now → IsBehind (row_group i g ∷ row_groups (i + 1) (drop (i + 1) gs)) target room now
+    → i < length gs → g ≡ get_or gs i g → StillToWrite (row_groups i (drop i gs)) target room now → StillToWrite (row_group i g ∷ row_groups (i + 1) (drop (i + 1) gs)) target room now
 grouped_here gs i g target room now within is behind =
-    subst (λ fss. IsBehind fss target room now) (ap (row_groups i) (drop_here gs i g within is)) behind
+    subst (λ fss. StillToWrite fss target room now) (ap (row_groups i) (drop_here gs i g within is)) behind
 
 pub grouped_over :
     (gs : List WrittenGroup) (i : ℕ) (target : Draft) (room : ℕ) (now : Draft)
-    → length gs ≤ i → IsBehind (row_groups i (drop i gs)) target room now → now ≡ target
+    → length gs ≤ i → StillToWrite (row_groups i (drop i gs)) target room now → now ≡ target
 grouped_over gs i target room now past behind =
-    list_over target room now (subst (λ fss. IsBehind fss target room now) (ap (row_groups i) (drop_all i gs past)) behind)
+    list_over target room now (subst (λ fss. StillToWrite fss target room now) (ap (row_groups i) (drop_all i gs past)) behind)
 
 pub groups_length : (position : ℕ) (gs : List WrittenGroup) → length (row_groups position gs) ≡ length gs
 groups_length position [] = refl

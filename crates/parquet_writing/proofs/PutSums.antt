@@ -1,4 +1,4 @@
--- A sum over chunks, as it is added up.
+-- The sum of a size over column chunks, added up chunk by chunk.
 use Rattle.std.proofs.Common.{◌≡◌, ℕ, ◌+◌, ◌<◌, ◌≤◌, ℤ, pos, ◌+ℤ◌, arith, List, length, get_or, drop, sym, ◌∙◌, ap}
 use Rattle.std.proofs.lemmas.Int.{ints}
 use Rattle.std.proofs.lemmas.List.{drop_all}

@@ -1,5 +1,5 @@
--- What a plan must keep so that each of its numbers, lists and byte lists fits its field: lengths and counts are below
--- 2^31, positions below 2^15, and sums are numbers of 64 bits. Each row group has a chunk.
+-- The limits on a plan within which each of its numbers, lists and byte arrays fits its field: lengths and counts are
+-- below 2^31, positions below 2^15, and sums fit 64 bits with sign. Each row group has a column chunk.
 use Rattle.std.specs.Prelude.{ℕ, ◌+◌, ◌<◌, ◌≤◌, FitsSigned, List, length, Option, Some, None}
 use Rattle.std.specs.Int.{w64}
 use Rattle.std.specs.List.{All}
@@ -15,13 +15,13 @@ use Rattle.parquet_types.specs.declared.plan.WrittenChunk.{WrittenChunk}
 use Rattle.parquet_types.specs.declared.plan.WrittenGroup.{WrittenGroup}
 use Rattle.parquet_writing.specs.Plans.{total_uncompressed, total_stored}
 
--- bytes of a field that may be absent
-abbrev pub AreFew : Option (List ℕ) → Type 0
-AreFew None = Unit {0}
-AreFew (Some bytes) = IsSmall (length bytes)
+-- The bytes of an optional field.
+abbrev pub FitsOptional : Option (List ℕ) → Type 0
+FitsOptional None = Unit {0}
+FitsOptional (Some bytes) = IsSmall (length bytes)
 
 pub record FitsAlgorithm (algorithm : AlgorithmMeta) : Type 0 where
-  pub prefix : AreFew algorithm.prefix
+  pub prefix : FitsOptional algorithm.prefix
   pub unique : IsSmall (length algorithm.unique)
 
 abbrev pub FitsKind : ColumnKind → Type 0
@@ -33,13 +33,13 @@ pub record FitsColumn (column : ColumnSpec) : Type 0 where
   pub kind : FitsKind column.kind
 
 abbrev pub FitsCrypto : ChunkCrypto → Type 0
-FitsCrypto (key.ColumnKey metadata) = AreFew metadata
+FitsCrypto (key.ColumnKey metadata) = FitsOptional metadata
 FitsCrypto k = Unit {0}
 
 pub record FitsChunk (chunk : WrittenChunk) : Type 0 where
   pub name : IsSmall (length chunk.spec.name)
   pub crypto : FitsCrypto chunk.crypto
-  pub sealed_meta : AreFew chunk.sealed_meta
+  pub sealed_meta : FitsOptional chunk.sealed_meta
 
 pub record FitsGroup (group : WrittenGroup) : Type 0 where
   pub some : 0 < length group.chunks
@@ -58,4 +58,4 @@ pub record FitsFooter (plan : FooterPlan) : Type 0 where
   pub positions : length plan.groups ≤ 32768
   pub groups : All FitsGroup plan.groups
   pub algorithm : FitsIfSome plan.algorithm
-  pub signing_key_metadata : AreFew plan.signing_key_metadata
+  pub signing_key_metadata : FitsOptional plan.signing_key_metadata

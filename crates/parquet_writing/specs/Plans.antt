@@ -1,4 +1,4 @@
--- The trees of the structs that are written, in the words of parquet.thrift.
+-- The trees of the structs that are written, in the terms of parquet.thrift.
 use Rattle.std.specs.Prelude.{ℕ, ◌+◌, ℤ, pos, ◌+ℤ◌, Bool, true, false, List, [], ◌∷◌, length, map, Option, Some, None}
 use Rattle.thrift_compact.specs.Tree.{Tree, truth, int16, int32, int64, binary, list, struct, Trees, no_trees, tree, Fields, no_fields, field}
 use Rattle.parquet_types.specs.declared.column.ColumnKind.{ColumnKind}
@@ -12,7 +12,7 @@ use Rattle.parquet_types.specs.declared.plan.FooterPlan.{FooterPlan}
 use Rattle.parquet_types.specs.declared.plan.WrittenChunk.{WrittenChunk}
 use Rattle.parquet_types.specs.declared.plan.WrittenGroup.{WrittenGroup}
 
--- a field that is there where there is a value, and one that is there where a flag is set; the other fields follow
+-- A field that is written if there is a value, and one that is written if a flag is set; the other fields follow.
 abbrev pub where_some : {X : Type 0} → ℤ → (X → Tree) → Option X → Fields → Fields
 where_some id value None others = others
 where_some id value (Some x) others = field id (value x) others
@@ -21,12 +21,12 @@ abbrev pub where_true : ℤ → Tree → Bool → Fields → Fields
 where_true id t false others = others
 where_true id t true others = field id t others
 
--- a list of structs
+-- A list of structs.
 abbrev pub structs : List Fields → Trees
 structs [] = no_trees
 structs (fs ∷ fss) = tree (struct fs) (structs fss)
 
--- DataPageHeader; 3 is RLE, in which repetition levels would stand
+-- DataPageHeader. Encoding 3 is RLE, here for repetition levels, of which a flat schema has none.
 abbrev pub data_page_header : DataHead → Fields
 data_page_header head =
     field (pos 1) (int32 head.num_values)
@@ -34,7 +34,7 @@ data_page_header head =
     (field (pos 3) (int32 head.level_encoding)
     (field (pos 4) (int32 (pos 3)) no_fields)))
 
--- PageHeader of a data page, whose type is 0
+-- PageHeader of a data page, whose type is 0.
 abbrev pub page_header : DataHead → Fields
 page_header head =
     field (pos 1) (int32 (pos 0))
@@ -63,7 +63,7 @@ file_crypto_meta_data algorithm key_metadata =
     field (pos 1) (struct (encryption_algorithm algorithm))
     (field (pos 2) (binary key_metadata) no_fields)
 
--- the physical types
+-- The physical types, by their numbers.
 abbrev pub kind_number : ColumnKind → ℤ
 kind_number kind.Boolean = pos 0
 kind_number kind.Int32 = pos 1
@@ -74,14 +74,14 @@ kind_number kind.Double = pos 5
 kind_number kind.ByteArray = pos 6
 kind_number (kind.Fixed length) = pos 7
 
--- the encodings PLAIN, of values, and RLE, of levels
+-- The encodings PLAIN for values and RLE for levels.
 abbrev pub encodings : Trees
 encodings = tree (int32 (pos 0)) (tree (int32 (pos 3)) no_trees)
 
 abbrev pub path_in_schema : List ℕ → Trees
 path_in_schema name = tree (binary name) no_trees
 
--- ColumnMetaData; codec 0 is UNCOMPRESSED
+-- ColumnMetaData. Codec 0 is UNCOMPRESSED.
 abbrev pub column_meta_data : WrittenChunk → Fields
 column_meta_data chunk =
     field (pos 1) (int32 (kind_number chunk.spec.kind))
@@ -99,7 +99,7 @@ column_key name metadata =
     field (pos 1) (list (path_in_schema name))
     (where_some (pos 2) binary metadata no_fields)
 
--- ColumnCryptoMetaData, of an encrypted chunk
+-- ColumnCryptoMetaData of an encrypted column chunk.
 abbrev pub column_crypto : List ℕ → ChunkCrypto → Option Fields
 column_crypto name key.Plain = None
 column_crypto name key.FooterKey = Some (field (pos 1) (struct no_fields) no_fields)
@@ -113,7 +113,7 @@ column_chunk chunk =
     (where_some (pos 8) struct (column_crypto chunk.spec.name chunk.crypto)
     (where_some (pos 9) binary chunk.sealed_meta no_fields)))
 
--- the sum of a size over chunks
+-- The sum of a size over column chunks.
 abbrev pub total : (WrittenChunk → ℤ) → List WrittenChunk → ℤ
 total size [] = pos 0
 total size (chunk ∷ chunks) = size chunk +ℤ total size chunks
@@ -124,12 +124,12 @@ total_uncompressed chunks = total (λ chunk. chunk.uncompressed) chunks
 abbrev pub total_stored : List WrittenChunk → ℤ
 total_stored chunks = total (λ chunk. chunk.stored) chunks
 
--- where the first chunk starts
+-- The offset of the first column chunk.
 abbrev pub first_start : List WrittenChunk → ℤ
 first_start [] = pos 0
 first_start (chunk ∷ chunks) = chunk.start
 
--- RowGroup at a position in the file
+-- RowGroup at a position in the file.
 abbrev pub row_group : ℕ → WrittenGroup → Fields
 row_group position group =
     field (pos 1) (list (structs (map column_chunk group.chunks)))
@@ -143,23 +143,23 @@ abbrev pub row_groups : ℕ → List WrittenGroup → List Fields
 row_groups position [] = []
 row_groups position (group ∷ groups) = row_group position group ∷ row_groups (position + 1) groups
 
--- SchemaElement of the root, `schema`, which counts the columns
+-- SchemaElement of the root, `schema`, whose count of children is the number of columns.
 abbrev pub schema_root : ℕ → Fields
 schema_root columns =
     field (pos 4) (binary (115 ∷ 99 ∷ 104 ∷ 101 ∷ 109 ∷ 97 ∷ []))
     (field (pos 5) (int32 (pos columns)) no_fields)
 
--- the bytes of a value of a type of fixed length
+-- The length in bytes of a FIXED_LEN_BYTE_ARRAY.
 abbrev pub fixed_length : ColumnKind → Option ℤ
 fixed_length (kind.Fixed length) = Some (pos length)
 fixed_length _ = None
 
--- REQUIRED is 0 and OPTIONAL 1
+-- REQUIRED is 0 and OPTIONAL is 1.
 abbrev pub repetition : Bool → ℤ
 repetition false = pos 0
 repetition true = pos 1
 
--- SchemaElement of a column; the converted type 0 is UTF8
+-- SchemaElement of a column. Converted type 0 is UTF8.
 abbrev pub schema_column : ColumnSpec → Fields
 schema_column column =
     field (pos 1) (int32 (kind_number column.kind))
@@ -171,12 +171,12 @@ schema_column column =
 abbrev pub schema : List ColumnSpec → List Fields
 schema columns = schema_root (length columns) ∷ map schema_column columns
 
--- the algorithm of a signed footer
+-- The algorithm of a signed footer.
 abbrev pub signing_algorithm : Option AlgorithmMeta → Option Fields
 signing_algorithm None = None
 signing_algorithm (Some algorithm) = Some (encryption_algorithm algorithm)
 
--- FileMetaData of version 1, created by `pme`
+-- FileMetaData of version 1, created by `pme`.
 abbrev pub file_meta_data : FooterPlan → Fields
 file_meta_data plan =
     field (pos 1) (int32 (pos 1))

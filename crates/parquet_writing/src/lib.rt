@@ -1,4 +1,5 @@
-// The structs of a file's metadata as they are written: each from its plan, in canonical spelling.
+//! Writes the structs of a file's metadata, each from its plan and in canonical spelling: each field header and number
+//! in its shortest form.
 #![tactic(auto)]
 
 mod put_algorithm;

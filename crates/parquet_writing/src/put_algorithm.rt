@@ -1,3 +1,4 @@
+// Writes EncryptionAlgorithm and FileCryptoMetaData.
 ghost use Rattle.std.specs.Prelude.{◌≡◌, pos, None, length, OnOk, IfOk};
 ghost use Rattle.thrift_compact.specs.declared.writer.Part.TheVariants as part;
 ghost use Rattle.thrift_compact.specs.Proper.{IsSmall};
@@ -28,8 +29,10 @@ fn put_aes_gcm_fields(writer: &mut Writer, algorithm: &AlgorithmMeta) -> Result<
 
 #[tactic(auto, using(crate::proofs::PutFields::field_put, crate::proofs::PutFields::in_struct_still))]
 fn put_algorithm_fields(writer: &mut Writer, algorithm: &AlgorithmMeta) -> Result<(), OutOfMemory>
-    requires { (writer.old.inner ≡ part.Struct None) × HasDepth 1 writer.old × FitsAlgorithm algorithm.now }
-    ensures fields { OnOk result (writer.new ≡ with_fields (encryption_algorithm algorithm.now) writer.old) }
+    requires { (writer.old.inner ≡ part.Struct None) × HasDepth 1 writer.old ×
+        FitsAlgorithm algorithm.now }
+    ensures fields { OnOk result (writer.new ≡
+        with_fields (encryption_algorithm algorithm.now) writer.old) }
     ensures last { OnOk result (IsUpTo (pos 2) writer.new.inner) }
 {
     let id = if algorithm.ctr { 2 } else { 1 };
@@ -38,7 +41,7 @@ fn put_algorithm_fields(writer: &mut Writer, algorithm: &AlgorithmMeta) -> Resul
     writer.struct_end()
 }
 
-/// An EncryptionAlgorithm as a field.
+/// Writes an EncryptionAlgorithm as the field `id`.
 #[tactic(auto, using(crate::proofs::PutFields::field_put, crate::proofs::PutFields::in_struct_still))]
 pub fn put_algorithm(
     writer: &mut Writer,
@@ -46,7 +49,8 @@ pub fn put_algorithm(
     algorithm: &AlgorithmMeta,
 ) -> Result<(), OutOfMemory>
     requires { Follows id writer.old.inner × HasDepth 2 writer.old × FitsAlgorithm algorithm.now }
-    ensures { OnOk result (writer.new ≡ with_value id (struct_tree (encryption_algorithm algorithm.now)) writer.old) }
+    ensures { OnOk result (writer.new ≡
+        with_value id (struct_tree (encryption_algorithm algorithm.now)) writer.old) }
 {
     writer.struct_field(id)?;
     put_algorithm_fields(writer, algorithm)?;
@@ -58,16 +62,18 @@ fn put_file_crypto(
     algorithm: &AlgorithmMeta,
     key_metadata: &[u8],
 ) -> Result<(), OutOfMemory>
-    requires { (writer.old.inner ≡ part.Struct None) × HasDepth 2 writer.old × FitsAlgorithm algorithm.now × IsSmall (length key_metadata.now) }
-    ensures fields { OnOk result (writer.new ≡ with_fields (file_crypto_meta_data algorithm.now key_metadata.now) writer.old) }
+    requires { (writer.old.inner ≡ part.Struct None) × HasDepth 2 writer.old ×
+        FitsAlgorithm algorithm.now × IsSmall (length key_metadata.now) }
+    ensures fields { OnOk result (writer.new ≡
+        with_fields (file_crypto_meta_data algorithm.now key_metadata.now) writer.old) }
     ensures last { OnOk result (IsUpTo (pos 2) writer.new.inner) }
 {
     put_algorithm(writer, 1, algorithm)?;
     writer.binary(2, key_metadata)
 }
 
-/// A FileCryptoMetaData, which stands in front of an encrypted footer, in canonical spelling: how its modules are sealed,
-/// and the metadata by which the footer's key is found.
+/// A FileCryptoMetaData in canonical spelling: the algorithm that encrypts the file's modules, and the metadata of
+/// the footer key.
 #[tactic(auto, using(crate::proofs::PutFields::struct_put))]
 pub fn write_file_crypto(
     alloc: Global,
@@ -75,7 +81,8 @@ pub fn write_file_crypto(
     key_metadata: &[u8],
 ) -> Result<Bytes, OutOfMemory>
     requires { FitsAlgorithm algorithm.now × IsSmall (length key_metadata.now) }
-    ensures { IfOk result (λ bytes. bytes ≡ canonical (struct_tree (file_crypto_meta_data algorithm.now key_metadata.now))) }
+    ensures { IfOk result (λ bytes. bytes ≡
+        canonical (struct_tree (file_crypto_meta_data algorithm.now key_metadata.now))) }
 {
     let mut writer = Writer::new(alloc);
     writer.struct_begin()?;

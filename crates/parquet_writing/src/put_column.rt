@@ -1,10 +1,11 @@
+// Writes ColumnChunk, ColumnMetaData and ColumnCryptoMetaData.
 ghost use Rattle.std.specs.Prelude.{◌≡◌, pos, None, length, OnOk, IfOk};
 ghost use Rattle.thrift_compact.specs.declared.writer.Part.TheVariants as part;
 ghost use Rattle.thrift_compact.specs.Proper.{IsSmall};
 ghost use Rattle.thrift_compact.specs.Spelling.{spelling, canonical};
 ghost use Rattle.thrift_compact.specs.Tree.{struct as struct_tree, list as list_tree, no_fields};
 ghost use Rattle.thrift_compact.specs.Writing.{Follows, Awaits, with_item};
-ghost use Rattle.parquet_writing.specs.Fitting.{AreFew, FitsCrypto, FitsChunk};
+ghost use Rattle.parquet_writing.specs.Fitting.{FitsOptional, FitsCrypto, FitsChunk};
 ghost use Rattle.parquet_writing.specs.Plans.{where_some, where_true, kind_number, encodings, path_in_schema, column_meta_data, column_key, column_crypto, column_chunk};
 ghost use Rattle.parquet_writing.specs.Putting.{with_value, with_fields, HasDepth, IsUpTo};
 
@@ -14,7 +15,7 @@ use pme_base::{Bytes, OutOfMemory};
 use std::alloc::Global;
 use thrift_compact::{TKind, Writer};
 
-/// The number of a physical type.
+/// The number of a physical type in `Type` of `parquet.thrift`.
 pub fn kind_number(kind: ColumnKind) -> i32
     ensures { result ≡ kind_number kind }
 {
@@ -30,7 +31,7 @@ pub fn kind_number(kind: ColumnKind) -> i32
     }
 }
 
-/// The encodings PLAIN, of values, and RLE, of levels.
+/// Writes the field `encodings`: PLAIN (0) for values and RLE (3) for levels.
 fn put_encodings(writer: &mut Writer) -> Result<(), OutOfMemory>
     requires { Follows (pos 2) writer.old.inner × HasDepth 1 writer.old }
     ensures { OnOk result (writer.new ≡ with_value (pos 2) (list_tree encodings) writer.old) }
@@ -40,18 +41,21 @@ fn put_encodings(writer: &mut Writer) -> Result<(), OutOfMemory>
     writer.item_whole(3)
 }
 
-/// The path of a column of a flat schema.
+/// Writes the path of a column of a flat schema: a list of its single name.
 fn put_path(writer: &mut Writer, id: i16, name: &Bytes) -> Result<(), OutOfMemory>
     requires { Follows id writer.old.inner × HasDepth 1 writer.old × IsSmall (length name.now) }
-    ensures { OnOk result (writer.new ≡ with_value id (list_tree (path_in_schema name.now)) writer.old) }
+    ensures { OnOk result (writer.new ≡
+        with_value id (list_tree (path_in_schema name.now)) writer.old) }
 {
     writer.list_field(id, TKind::Binary, 1)?;
     writer.item_binary(name.as_slice())
 }
 
 fn put_column_meta(writer: &mut Writer, chunk: &WrittenChunk) -> Result<(), OutOfMemory>
-    requires { (writer.old.inner ≡ part.Struct None) × HasDepth 1 writer.old × IsSmall (length chunk.now.spec.name) }
-    ensures fields { OnOk result (writer.new ≡ with_fields (column_meta_data chunk.now) writer.old) }
+    requires { (writer.old.inner ≡ part.Struct None) × HasDepth 1 writer.old ×
+        IsSmall (length chunk.now.spec.name) }
+    ensures fields { OnOk result (writer.new ≡
+        with_fields (column_meta_data chunk.now) writer.old) }
     ensures last { OnOk result (IsUpTo (pos 9) writer.new.inner) }
     ensures outer { OnOk result (writer.new.outer ≡ writer.old.outer) }
 {
@@ -65,7 +69,7 @@ fn put_column_meta(writer: &mut Writer, chunk: &WrittenChunk) -> Result<(), OutO
     writer.whole(9, TKind::I64, chunk.start)
 }
 
-/// The metadata of a chunk as a ColumnMetaData in canonical spelling.
+/// The metadata of a column chunk as a ColumnMetaData in canonical spelling.
 #[tactic(auto, using(crate::proofs::PutFields::struct_put))]
 pub fn write_column_meta(alloc: Global, chunk: &WrittenChunk) -> Result<Bytes, OutOfMemory>
     requires { FitsChunk chunk.now }
@@ -78,11 +82,13 @@ pub fn write_column_meta(alloc: Global, chunk: &WrittenChunk) -> Result<Bytes, O
     Ok(writer.finish())
 }
 
-/// The metadata of a chunk in the chunk, where they are shown there.
+/// Writes the metadata of a column chunk into its ColumnChunk if they are shown in plain.
 #[tactic(auto, using(crate::proofs::PutFields::field_put, crate::proofs::PutFields::in_struct_still, crate::proofs::PutFields::follows_later))]
 fn put_shown_meta(writer: &mut Writer, chunk: &WrittenChunk) -> Result<(), OutOfMemory>
-    requires { Follows (pos 3) writer.old.inner × HasDepth 2 writer.old × IsSmall (length chunk.now.spec.name) }
-    ensures fields { OnOk result (writer.new ≡ with_fields (where_true (pos 3) (struct_tree (column_meta_data chunk.now)) chunk.now.show_meta no_fields) writer.old) }
+    requires { Follows (pos 3) writer.old.inner × HasDepth 2 writer.old ×
+        IsSmall (length chunk.now.spec.name) }
+    ensures fields { OnOk result (writer.new ≡ with_fields (where_true (pos 3)
+        (struct_tree (column_meta_data chunk.now)) chunk.now.show_meta no_fields) writer.old) }
     ensures last { OnOk result (IsUpTo (pos 3) writer.new.inner) }
     ensures outer { OnOk result (writer.new.outer ≡ writer.old.outer) }
 {
@@ -94,14 +100,16 @@ fn put_shown_meta(writer: &mut Writer, chunk: &WrittenChunk) -> Result<(), OutOf
     writer.struct_end()
 }
 
-/// A key of a column's own: the path of its column, and the metadata by which it is found.
+/// Writes an EncryptionWithColumnKey: the path of the column, and its key metadata if there is any.
 fn put_column_key_fields(
     writer: &mut Writer,
     name: &Bytes,
     metadata: &Option<Bytes>,
 ) -> Result<(), OutOfMemory>
-    requires { (writer.old.inner ≡ part.Struct None) × HasDepth 1 writer.old × IsSmall (length name.now) × AreFew metadata.now }
-    ensures fields { OnOk result (writer.new ≡ with_fields (column_key name.now metadata.now) writer.old) }
+    requires { (writer.old.inner ≡ part.Struct None) × HasDepth 1 writer.old ×
+        IsSmall (length name.now) × FitsOptional metadata.now }
+    ensures fields { OnOk result (writer.new ≡
+        with_fields (column_key name.now metadata.now) writer.old) }
     ensures last { OnOk result (IsUpTo (pos 2) writer.new.inner) }
     ensures outer { OnOk result (writer.new.outer ≡ writer.old.outer) }
 {
@@ -115,8 +123,10 @@ fn put_column_key(
     name: &Bytes,
     metadata: &Option<Bytes>,
 ) -> Result<(), OutOfMemory>
-    requires { (writer.old.inner ≡ part.Struct None) × HasDepth 2 writer.old × IsSmall (length name.now) × AreFew metadata.now }
-    ensures { OnOk result (writer.new ≡ with_value (pos 2) (struct_tree (column_key name.now metadata.now)) writer.old) }
+    requires { (writer.old.inner ≡ part.Struct None) × HasDepth 2 writer.old ×
+        IsSmall (length name.now) × FitsOptional metadata.now }
+    ensures { OnOk result (writer.new ≡
+        with_value (pos 2) (struct_tree (column_key name.now metadata.now)) writer.old) }
 {
     writer.struct_field(2)?;
     put_column_key_fields(writer, name, metadata)?;
@@ -131,11 +141,13 @@ fn put_footer_key(writer: &mut Writer) -> Result<(), OutOfMemory>
     writer.struct_end()
 }
 
-/// How a chunk is encrypted, where it is.
+/// Writes the ColumnCryptoMetaData of a column chunk if the chunk is encrypted.
 #[tactic(auto, using(crate::proofs::PutFields::field_put, crate::proofs::PutFields::in_struct_still, crate::proofs::PutFields::follows_later))]
 fn put_crypto(writer: &mut Writer, name: &Bytes, crypto: &ChunkCrypto) -> Result<(), OutOfMemory>
-    requires { Follows (pos 8) writer.old.inner × HasDepth 3 writer.old × IsSmall (length name.now) × FitsCrypto crypto.now }
-    ensures fields { OnOk result (writer.new ≡ with_fields (where_some (pos 8) struct_tree (column_crypto name.now crypto.now) no_fields) writer.old) }
+    requires { Follows (pos 8) writer.old.inner × HasDepth 3 writer.old ×
+        IsSmall (length name.now) × FitsCrypto crypto.now }
+    ensures fields { OnOk result (writer.new ≡ with_fields
+        (where_some (pos 8) struct_tree (column_crypto name.now crypto.now) no_fields) writer.old) }
     ensures last { OnOk result (IsUpTo (pos 8) writer.new.inner) }
     ensures outer { OnOk result (writer.new.outer ≡ writer.old.outer) }
 {

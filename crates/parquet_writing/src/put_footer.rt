@@ -1,3 +1,4 @@
+// Writes FileMetaData.
 ghost use Rattle.std.specs.Prelude.{◌≡◌, pos, None, OnOk, IfOk};
 ghost use Rattle.thrift_compact.specs.declared.writer.Part.TheVariants as part;
 ghost use Rattle.thrift_compact.specs.Spelling.{canonical};
@@ -16,14 +17,15 @@ use pme_base::{Bytes, OutOfMemory};
 use std::alloc::Global;
 use thrift_compact::{TKind, Writer};
 
-/// The algorithm of a signed footer.
+/// Writes the algorithm of a signed footer; there is none if the footer isn't signed.
 #[tactic(auto, using(crate::proofs::PutFields::follows_later))]
 fn put_signing_algorithm(
     writer: &mut Writer,
     algorithm: &Option<AlgorithmMeta>,
 ) -> Result<(), OutOfMemory>
     requires { Follows (pos 8) writer.old.inner × HasDepth 2 writer.old × FitsIfSome algorithm.now }
-    ensures fields { OnOk result (writer.new ≡ with_fields (where_some (pos 8) struct_tree (signing_algorithm algorithm.now) no_fields) writer.old) }
+    ensures fields { OnOk result (writer.new ≡ with_fields
+        (where_some (pos 8) struct_tree (signing_algorithm algorithm.now) no_fields) writer.old) }
     ensures last { OnOk result (IsUpTo (pos 8) writer.new.inner) }
     ensures outer { OnOk result (writer.new.outer ≡ writer.old.outer) }
 {
@@ -48,8 +50,8 @@ fn put_file_meta(writer: &mut Writer, plan: &FooterPlan) -> Result<(), OutOfMemo
     put_optional(writer, 9, &plan.signing_key_metadata)
 }
 
-/// A footer as a FileMetaData in canonical spelling. Of a row group it has the sums of its chunks' sizes, the start of its
-/// first chunk, and its position.
+/// A footer as a FileMetaData in canonical spelling. Each row group holds the sums of its column chunks' sizes, the
+/// offset of its first chunk, and its position as ordinal.
 #[tactic(auto, using(crate::proofs::PutFields::struct_put))]
 pub fn write_file_meta(alloc: Global, plan: &FooterPlan) -> Result<Bytes, OutOfMemory>
     requires { FitsFooter plan.now }

@@ -1,3 +1,4 @@
+// Writes RowGroups.
 ghost use Rattle.std.specs.Prelude.{◌≡◌, ◌<◌, ◌≤◌, ◌+◌, ◌+ℤ◌, ℕ, pos, None, length, map, FitsSigned, OnOk};
 ghost use Rattle.std.specs.Int.{w64};
 ghost use Rattle.std.specs.List.{All};
@@ -19,7 +20,8 @@ use thrift_compact::{TKind, Writer};
 #[tactic(auto, using(crate::proofs::PutLists::item_put, crate::proofs::PutLists::around_length, crate::proofs::PutFields::in_struct_still))]
 fn put_chunk(writer: &mut Writer, chunk: &WrittenChunk) -> Result<(), OutOfMemory>
     requires { Awaits kind.Struct writer.old.inner × HasDepth 4 writer.old × FitsChunk chunk.now }
-    ensures { OnOk result (writer.new ≡ with_item (spelling (struct_tree (column_chunk chunk.now))) writer.old) }
+    ensures { OnOk result (writer.new ≡
+        with_item (spelling (struct_tree (column_chunk chunk.now))) writer.old) }
 {
     writer.struct_begin()?;
     put_chunk_fields(writer, chunk)?;
@@ -27,8 +29,10 @@ fn put_chunk(writer: &mut Writer, chunk: &WrittenChunk) -> Result<(), OutOfMemor
 }
 
 fn put_chunks(writer: &mut Writer, chunks: &WrittenChunks) -> Result<(), OutOfMemory>
-    requires { Follows (pos 1) writer.old.inner × HasDepth 5 writer.old × IsSmall (length chunks.now) × All FitsChunk chunks.now }
-    ensures { OnOk result (writer.new ≡ with_value (pos 1) (list_tree (structs (map column_chunk chunks.now))) writer.old) }
+    requires { Follows (pos 1) writer.old.inner × HasDepth 5 writer.old ×
+        IsSmall (length chunks.now) × All FitsChunk chunks.now }
+    ensures { OnOk result (writer.new ≡
+        with_value (pos 1) (list_tree (structs (map column_chunk chunks.now))) writer.old) }
 {
     let items = chunks.as_slice();
     writer.list_field(1, TKind::Struct, items.len() as u32)?;
@@ -38,21 +42,21 @@ fn put_chunks(writer: &mut Writer, chunks: &WrittenChunks) -> Result<(), OutOfMe
     Ok(())
 }
 
-/// The bytes of a row group, in plain and in the file.
+/// The size of a row group in bytes, before encryption and in the file.
 #[derive(Clone, Copy, Drop)]
 struct GroupSize {
     uncompressed: i64,
     stored: i64,
 }
 
-/// A sum of sizes on its way, in which parts of the sum need not fit the type of the whole.
+/// A sum of chunk sizes. Partial sums may exceed the range of i64, even where the whole sum does not.
 #[derive(Clone, Copy, Drop)]
 struct WideSize {
     uncompressed: i128,
     stored: i128,
 }
 
-fn added(sum: i128, size: i64) -> i128
+fn add_size(sum: i128, size: i64) -> i128
     requires { IsWithin 2147483648 sum }
     ensures sum { result ≡ sum +ℤ size }
     ensures within { (n : ℕ) → IsWithin n sum → IsWithin (n + 1) result }
@@ -65,12 +69,13 @@ impl WideSize {
         requires { IsWithin 2147483648 self.uncompressed × IsWithin 2147483648 self.stored }
         ensures uncompressed { result.uncompressed ≡ self.uncompressed +ℤ chunk.now.uncompressed }
         ensures stored { result.stored ≡ self.stored +ℤ chunk.now.stored }
-        ensures within_uncompressed { (n : ℕ) → IsWithin n self.uncompressed → IsWithin (n + 1) result.uncompressed }
+        ensures within_uncompressed { (n : ℕ) → IsWithin n self.uncompressed →
+            IsWithin (n + 1) result.uncompressed }
         ensures within_stored { (n : ℕ) → IsWithin n self.stored → IsWithin (n + 1) result.stored }
     {
         WideSize {
-            uncompressed: added(self.uncompressed, chunk.uncompressed),
-            stored: added(self.stored, chunk.stored),
+            uncompressed: add_size(self.uncompressed, chunk.uncompressed),
+            stored: add_size(self.stored, chunk.stored),
         }
     }
 
@@ -87,7 +92,8 @@ impl WideSize {
 }
 
 fn size_of(chunks: &WrittenChunks) -> GroupSize
-    requires { IsSmall (length chunks.now) × FitsSigned w64 (total_uncompressed chunks.now) × FitsSigned w64 (total_stored chunks.now) }
+    requires { IsSmall (length chunks.now) × FitsSigned w64 (total_uncompressed chunks.now) ×
+        FitsSigned w64 (total_stored chunks.now) }
     ensures uncompressed { result.uncompressed ≡ total_uncompressed chunks.now }
     ensures stored { result.stored ≡ total_stored chunks.now }
 {
@@ -116,8 +122,10 @@ fn put_group_fields(
     position: u16,
     group: &WrittenGroup,
 ) -> Result<(), OutOfMemory>
-    requires { (writer.old.inner ≡ part.Struct None) × HasDepth 5 writer.old × FitsGroup group.now × (position < 32768) }
-    ensures fields { OnOk result (writer.new ≡ with_fields (row_group position group.now) writer.old) }
+    requires { (writer.old.inner ≡ part.Struct None) × HasDepth 5 writer.old × FitsGroup group.now ×
+        (position < 32768) }
+    ensures fields { OnOk result (writer.new ≡
+        with_fields (row_group position group.now) writer.old) }
     ensures last { OnOk result (IsUpTo (pos 7) writer.new.inner) }
     ensures outer { OnOk result (writer.new.outer ≡ writer.old.outer) }
 {
@@ -132,18 +140,22 @@ fn put_group_fields(
 
 #[tactic(auto, using(crate::proofs::PutLists::item_put, crate::proofs::PutLists::around_length, crate::proofs::PutFields::in_struct_still))]
 fn put_group(writer: &mut Writer, position: u16, group: &WrittenGroup) -> Result<(), OutOfMemory>
-    requires { Awaits kind.Struct writer.old.inner × HasDepth 6 writer.old × FitsGroup group.now × (position < 32768) }
-    ensures { OnOk result (writer.new ≡ with_item (spelling (struct_tree (row_group position group.now))) writer.old) }
+    requires { Awaits kind.Struct writer.old.inner × HasDepth 6 writer.old × FitsGroup group.now ×
+        (position < 32768) }
+    ensures { OnOk result (writer.new ≡
+        with_item (spelling (struct_tree (row_group position group.now))) writer.old) }
 {
     writer.struct_begin()?;
     put_group_fields(writer, position, group)?;
     writer.struct_end()
 }
 
-/// The row groups of a file, each with its position.
+/// Writes the row groups of a file, each with its position as ordinal.
 pub fn put_groups(writer: &mut Writer, groups: &WrittenGroups) -> Result<(), OutOfMemory>
-    requires { Follows (pos 4) writer.old.inner × HasDepth 7 writer.old × (length groups.now ≤ 32768) × All FitsGroup groups.now }
-    ensures { OnOk result (writer.new ≡ with_value (pos 4) (list_tree (structs (row_groups 0 groups.now))) writer.old) }
+    requires { Follows (pos 4) writer.old.inner × HasDepth 7 writer.old ×
+        (length groups.now ≤ 32768) × All FitsGroup groups.now }
+    ensures { OnOk result (writer.new ≡
+        with_value (pos 4) (list_tree (structs (row_groups 0 groups.now))) writer.old) }
 {
     let items = groups.as_slice();
     writer.list_field(4, TKind::Struct, items.len() as u32)?;

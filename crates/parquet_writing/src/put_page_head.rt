@@ -1,3 +1,4 @@
+// Writes the PageHeader of a data page.
 ghost use Rattle.std.specs.Prelude.{◌≡◌, pos, None, OnOk, IfOk};
 ghost use Rattle.thrift_compact.specs.declared.writer.Part.TheVariants as part;
 ghost use Rattle.thrift_compact.specs.Spelling.{canonical};
@@ -25,7 +26,8 @@ fn put_counts(writer: &mut Writer, head: &DataHead) -> Result<(), OutOfMemory>
 #[tactic(auto, using(crate::proofs::PutFields::field_put))]
 fn put_data_page_header(writer: &mut Writer, head: &DataHead) -> Result<(), OutOfMemory>
     requires { Follows (pos 5) writer.old.inner × HasDepth 1 writer.old }
-    ensures { OnOk result (writer.new ≡ with_value (pos 5) (struct_tree (data_page_header head.now)) writer.old) }
+    ensures { OnOk result (writer.new ≡
+        with_value (pos 5) (struct_tree (data_page_header head.now)) writer.old) }
 {
     writer.struct_field(5)?;
     put_counts(writer, head)?;

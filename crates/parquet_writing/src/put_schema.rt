@@ -1,3 +1,4 @@
+// Writes the SchemaElements of a flat schema.
 ghost use Rattle.std.specs.Prelude.{◌≡◌, ◌+◌, pos, None, length, OnOk};
 ghost use Rattle.std.specs.List.{All};
 ghost use Rattle.thrift_compact.specs.declared.kind.TKind.TheVariants as kind;
@@ -25,22 +26,24 @@ fn put_root_fields(writer: &mut Writer, columns: u32) -> Result<(), OutOfMemory>
     writer.whole(5, TKind::I32, i64::from(columns))
 }
 
-/// The root, which counts its columns.
+/// Writes the root element, whose count of children is the number of columns.
 #[tactic(auto, using(crate::proofs::PutLists::item_put, crate::proofs::PutLists::around_length, crate::proofs::PutFields::in_struct_still))]
 fn put_root(writer: &mut Writer, columns: u32) -> Result<(), OutOfMemory>
     requires { Awaits kind.Struct writer.old.inner × HasDepth 1 writer.old × IsSmall columns }
-    ensures { OnOk result (writer.new ≡ with_item (spelling (struct_tree (schema_root columns))) writer.old) }
+    ensures { OnOk result (writer.new ≡
+        with_item (spelling (struct_tree (schema_root columns))) writer.old) }
 {
     writer.struct_begin()?;
     put_root_fields(writer, columns)?;
     writer.struct_end()
 }
 
-/// The bytes of a value of a type of fixed length.
+/// Writes the length in bytes of a FIXED_LEN_BYTE_ARRAY, and nothing for other types.
 #[tactic(auto, using(crate::proofs::PutFields::follows_later))]
 fn put_fixed_length(writer: &mut Writer, kind: ColumnKind) -> Result<(), OutOfMemory>
     requires { Follows (pos 2) writer.old.inner × FitsKind kind }
-    ensures fields { OnOk result (writer.new ≡ with_fields (where_some (pos 2) int32_tree (fixed_length kind) no_fields) writer.old) }
+    ensures fields { OnOk result (writer.new ≡
+        with_fields (where_some (pos 2) int32_tree (fixed_length kind) no_fields) writer.old) }
     ensures last { OnOk result (IsUpTo (pos 2) writer.new.inner) }
     ensures outer { OnOk result (writer.new.outer ≡ writer.old.outer) }
 {
@@ -50,11 +53,12 @@ fn put_fixed_length(writer: &mut Writer, kind: ColumnKind) -> Result<(), OutOfMe
     }
 }
 
-/// The converted type UTF8 of texts.
+/// Writes the converted type UTF8 of a text column.
 #[tactic(auto, using(crate::proofs::PutFields::follows_later))]
 fn put_converted_type(writer: &mut Writer, text: bool) -> Result<(), OutOfMemory>
     requires { Follows (pos 6) writer.old.inner }
-    ensures fields { OnOk result (writer.new ≡ with_fields (where_true (pos 6) (int32_tree (pos 0)) text no_fields) writer.old) }
+    ensures fields { OnOk result (writer.new ≡
+        with_fields (where_true (pos 6) (int32_tree (pos 0)) text no_fields) writer.old) }
     ensures last { OnOk result (IsUpTo (pos 6) writer.new.inner) }
     ensures outer { OnOk result (writer.new.outer ≡ writer.old.outer) }
 {
@@ -66,15 +70,17 @@ fn put_converted_type(writer: &mut Writer, text: bool) -> Result<(), OutOfMemory
 
 fn put_kind(writer: &mut Writer, kind: ColumnKind) -> Result<(), OutOfMemory>
     requires { Follows (pos 1) writer.old.inner }
-    ensures { OnOk result (writer.new ≡ with_value (pos 1) (int32_tree (kind_number kind)) writer.old) }
+    ensures { OnOk result (writer.new ≡
+        with_value (pos 1) (int32_tree (kind_number kind)) writer.old) }
 {
     writer.whole(1, TKind::I32, i64::from(kind_number(kind)))
 }
 
-/// REQUIRED or OPTIONAL.
+/// Writes the repetition type, REQUIRED (0) or OPTIONAL (1).
 fn put_repetition(writer: &mut Writer, optional: bool) -> Result<(), OutOfMemory>
     requires { Follows (pos 3) writer.old.inner }
-    ensures { OnOk result (writer.new ≡ with_value (pos 3) (int32_tree (repetition optional)) writer.old) }
+    ensures { OnOk result (writer.new ≡
+        with_value (pos 3) (int32_tree (repetition optional)) writer.old) }
 {
     if optional {
         return writer.whole(3, TKind::I32, 1);
@@ -99,17 +105,20 @@ fn put_column_fields(writer: &mut Writer, column: &ColumnSpec) -> Result<(), Out
 #[tactic(auto, using(crate::proofs::PutLists::item_put, crate::proofs::PutLists::around_length, crate::proofs::PutFields::in_struct_still))]
 fn put_column(writer: &mut Writer, column: &ColumnSpec) -> Result<(), OutOfMemory>
     requires { Awaits kind.Struct writer.old.inner × HasDepth 1 writer.old × FitsColumn column.now }
-    ensures { OnOk result (writer.new ≡ with_item (spelling (struct_tree (schema_column column.now))) writer.old) }
+    ensures { OnOk result (writer.new ≡
+        with_item (spelling (struct_tree (schema_column column.now))) writer.old) }
 {
     writer.struct_begin()?;
     put_column_fields(writer, column)?;
     writer.struct_end()
 }
 
-/// The schema: the root and its columns.
+/// Writes the schema: the root and the columns.
 pub fn put_schema(writer: &mut Writer, columns: &FlatSchema) -> Result<(), OutOfMemory>
-    requires { Follows (pos 2) writer.old.inner × HasDepth 2 writer.old × IsSmall (length columns.now + 1) × All FitsColumn columns.now }
-    ensures { OnOk result (writer.new ≡ with_value (pos 2) (list_tree (structs (schema columns.now))) writer.old) }
+    requires { Follows (pos 2) writer.old.inner × HasDepth 2 writer.old ×
+        IsSmall (length columns.now + 1) × All FitsColumn columns.now }
+    ensures { OnOk result (writer.new ≡
+        with_value (pos 2) (list_tree (structs (schema columns.now))) writer.old) }
 {
     let items = columns.as_slice();
     let count = items.len() as u32;

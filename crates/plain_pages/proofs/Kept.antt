@@ -1,4 +1,4 @@
--- A column's bytes are read back as its cells.
+-- A column's stored levels and bytes are read back as its cells, also after another cell is appended.
 use Rattle.std.proofs.Common.{◌≡◌, ◌≢◌, ℕ, ℤ, suc, ◌+◌, ◌*◌, ◌/◌, ◌<◌, ◌≤◌, ◌==◌, nat_le, Bool, true, false, if◌then◌else◌, List, [], ◌∷◌, ◌++◌, take, drop, length, FitsSigned, refl, sym, ap, ◌∙◌, arith, append_assoc, length-append, below_more}
 use Rattle.std.specs.Int.{w32, w64, to_le_bytes, from_le_bytes, cast_unsigned, cast_signed}
 use Rattle.std.proofs.Math.ListN.{get_or-append}
@@ -17,7 +17,7 @@ use Rattle.plain_pages.specs.Columns.{IsValueOf, IsCellOf, AreCellsOf, text_of, 
 le_true : (m n : ℕ) → m ≤ n → nat_le m n ≡ true
 le_true m n h = grind arith
 
--- what a kind's value reads as, and how long it is, with other bytes behind it
+-- `text` is read as `cell`, with its own length, whatever bytes follow it
 pub record ReadsAs (kind : ColumnKind) (cell : Cell) (text : List ℕ) : Type 0 where
   pub size : (rest : List ℕ) → value_size kind (text ++ rest) ≡ length text
   pub value : (rest : List ℕ) → value_of kind (text ++ rest) ≡ cell
@@ -61,7 +61,7 @@ kept_by kind cell text pre rest body reads e =
     let long : length body ≡ length pre + (length text + length rest) = ap length e ∙ length-append pre (text ++ rest) ∙ ap (λ n. length pre + n) (length-append text rest) in
     rw (front, reads.size rest, long, le_true (length pre + length text) (length pre + (length text + length rest)) (omega arith)) (reads.value rest)
 
--- a value is read where its bytes begin
+-- a value is read back at its offset in the stored bytes
 pub read_kept : (kind : ColumnKind) (cell : Cell) (pre rest : List ℕ) → IsValueOf kind cell
     → value_kept kind (length pre) (pre ++ (text_of kind cell ++ rest)) ≡ cell
 read_kept Boolean cell pre rest h =
@@ -91,7 +91,7 @@ kept_back spec (int32 n ∷ cells) h = kept_turn spec.kind (int32 n) cells 1 ref
 kept_back spec (int64 n ∷ cells) h = kept_turn spec.kind (int64 n) cells 1 refl h.0 (kept_back spec cells h.1)
 kept_back spec (bytes xs ∷ cells) h = kept_turn spec.kind (bytes xs) cells 1 refl h.0 (kept_back spec cells h.1)
 
--- ---- one cell more
+-- ---- appending a cell
 pub values_text-append : (kind : ColumnKind) (xs ys : List Cell) → values_text kind (xs ++ ys) ≡ values_text kind xs ++ values_text kind ys
 values_text-append kind [] ys = refl
 values_text-append kind (x ∷ xs) ys =
@@ -104,7 +104,7 @@ all_push : (spec : ColumnSpec) (cells : List Cell) (cell : Cell) → AreCellsOf 
 all_push spec [] cell h one = (one, tt)
 all_push spec (c ∷ cells) cell h one = (h.0, all_push spec cells cell h.1 one)
 
--- a mark more where there is none for the next cell
+-- the marks stay correct when the next cell's mark is appended
 marks_marked : (kind : ColumnKind) (cells : List Cell) (marks : List ℕ) (place : ℕ) → AreMarks kind cells marks → 16 * length marks ≡ length cells
     → place ≡ length (values_text kind cells) → AreMarks kind cells (marks ++ place ∷ [])
 marks_marked kind cells marks place m e p =
@@ -118,10 +118,10 @@ marks_marked kind cells marks place m e p =
           (get_or-append_seam marks place [] 0 ∙ p ∙ sym last));
     }
 
--- a cell more where its mark is there
+-- the marks stay correct when a cell is appended that already has its mark
 marks_push : (kind : ColumnKind) (cells : List Cell) (cell : Cell) (marks : List ℕ) → AreMarks kind cells marks → length cells < 16 * length marks
     → AreMarks kind (cells ++ cell ∷ []) marks
-marks_push kind cells cell marks m room =
+marks_push kind cells cell marks m capacity =
     let long : length (cells ++ cell ∷ []) ≡ length cells + 1 = length-append cells (cell ∷ []) in
     record {
       enough = omega (arith, long);
@@ -139,10 +139,10 @@ with_marks : (spec : ColumnSpec) (cells : List Cell) (levels marks values more :
     → Keeps spec cells levels more values
 with_marks spec cells levels marks values more k m = record { of_spec = k.of_spec; levels_are = k.levels_are; values_are = k.values_are; marks_are = m }
 
--- what a column keeps, with the mark that the next cell needs
+-- a column's representation that already has the mark of the next cell
 pub record Ready (spec : ColumnSpec) (cells : List Cell) (levels marks values : List ℕ) : Type 0 where
   pub kept : Keeps spec cells levels marks values
-  pub room : length cells < 16 * length marks
+  pub capacity : length cells < 16 * length marks
 
 ready_by : (spec : ColumnSpec) (cells : List Cell) (levels marks values : List ℕ) (due : Bool) → Keeps spec cells levels marks values
     → (length levels / 16 == length marks) ≡ due → Ready spec cells levels (if due then marks ++ length values ∷ [] else marks) values
@@ -151,10 +151,10 @@ ready_by spec cells levels marks values true k e =
     let same : 16 * length marks ≡ length levels = omega (arith, whole, k.marks_are.enough, length-levels spec cells levels marks values k) in
     let long : length (marks ++ length values ∷ []) ≡ length marks + 1 = length-append marks (length values ∷ []) in
     let more = marks_marked spec.kind cells marks (length values) k.marks_are (same ∙ length-levels spec cells levels marks values k) (ap length k.values_are) in
-    record { kept = with_marks spec cells levels marks values _ k more; room = omega (arith, long, k.marks_are.enough) }
+    record { kept = with_marks spec cells levels marks values _ k more; capacity = omega (arith, long, k.marks_are.enough) }
 ready_by spec cells levels marks values false k e =
     let other : length levels / 16 ≢ length marks = grind arith in
-    record { kept = k; room = omega (arith, other, length-levels spec cells levels marks values k, k.marks_are.enough) }
+    record { kept = k; capacity = omega (arith, other, length-levels spec cells levels marks values k, k.marks_are.enough) }
 
 pub ready : (spec : ColumnSpec) (cells : List Cell) (levels marks values : List ℕ) → Keeps spec cells levels marks values
     → Ready spec cells levels (marked (length levels) (length values) marks) values
@@ -170,10 +170,10 @@ keeps_push spec cells cell levels marks values levels' values' r one e g = recor
   of_spec = all_push spec cells cell r.kept.of_spec one;
   levels_are = e ∙ ap (λ ls. ls ++ level_of cell ∷ []) r.kept.levels_are ∙ sym (map_push level_of cells cell);
   values_are = g ∙ ap (λ vs. vs ++ text_of spec.kind cell) r.kept.values_are ∙ sym (values_text-push spec.kind cells cell);
-  marks_are = marks_push spec.kind cells cell marks r.kept.marks_are r.room;
+  marks_are = marks_push spec.kind cells cell marks r.kept.marks_are r.capacity;
 }
 
--- the same where the cells are read from what is kept
+-- the cells that are read after a cell has been appended
 pub pushed_cells : (spec : ColumnSpec) (cells : List Cell) (cell : Cell) (levels marks values levels' values' : List ℕ) → Ready spec cells levels marks values
     → IsCellOf spec cell → levels' ≡ levels ++ level_of cell ∷ [] → values' ≡ values ++ text_of spec.kind cell
     → cells_kept spec.kind levels' values' ≡ cells ++ cell ∷ []
@@ -186,15 +186,15 @@ pub pushed_keeps : (spec : ColumnSpec) (cells : List Cell) (cell : Cell) (levels
 pushed_keeps spec cells cell levels marks values levels' values' r one e g =
     rw (pushed_cells spec cells cell levels marks values levels' values' r one e g) (keeps_push spec cells cell levels marks values levels' values' r one e g)
 
--- what is kept of the levels
-pub kept_levels : (spec : ColumnSpec) (cells : List Cell) (count : ℕ) (levels marks values : List ℕ) (room : ℕ) → IsKept spec cells count levels marks values room
+-- the kept levels of an OPTIONAL column are its cells' levels
+pub kept_levels : (spec : ColumnSpec) (cells : List Cell) (count : ℕ) (levels marks values : List ℕ) (capacity : ℕ) → IsKept spec cells count levels marks values capacity
     → spec.optional ≡ true → levels ≡ levels_of cells
-kept_levels spec cells count levels marks values room k optional = rw optional at k.kept.levels_are
+kept_levels spec cells count levels marks values capacity k optional = rw optional at k.kept.levels_are
 
-pub kept_length : (spec : ColumnSpec) (cells : List Cell) (count : ℕ) (levels marks values : List ℕ) (room : ℕ) → IsKept spec cells count levels marks values room
+pub kept_length : (spec : ColumnSpec) (cells : List Cell) (count : ℕ) (levels marks values : List ℕ) (capacity : ℕ) → IsKept spec cells count levels marks values capacity
     → spec.optional ≡ true → length levels ≡ count
-kept_length spec cells count levels marks values room k optional =
-    ap length (kept_levels spec cells count levels marks values room k optional) ∙ length-map cells level_of ∙ sym k.counted
+kept_length spec cells count levels marks values capacity k optional =
+    ap length (kept_levels spec cells count levels marks values capacity k optional) ∙ length-map cells level_of ∙ sym k.counted
 
 pub level_one : (spec : ColumnSpec) (cell : Cell) → IsCellOf spec cell → spec.optional ≡ false → level_of cell ≡ 1
 level_one spec null h e = cc (sym h ∙ e)

@@ -1,4 +1,4 @@
--- A page that is written is read back as its cells.
+-- The page that is written for cells is read back as these cells.
 use Rattle.std.proofs.Common.{◌≡◌, ℕ, zero, suc, ◌+◌, ◌-◌, ◌*◌, ◌/◌, ◌%◌, ◌^◌, ◌<◌, ◌≤◌, ◌==◌, nat_le, nat_lt, Bool, true, false, if◌then◌else◌, List, [], ◌∷◌, ◌++◌, take, drop, map, length, replicate, Some, refl, sym, ap, subst, ◌∙◌, arith, append_assoc, length-append, length-take, length-drop, inl, inr, Ok}
 use Rattle.std.specs.Int.{w32, cast_unsigned, bit_at}
 use Rattle.std.specs.List.{slice_get, slice_index}
@@ -18,7 +18,7 @@ use Rattle.hybrid_runs.specs.Written.{run_text, bits_text, bits_number, grouped,
 use Rattle.hybrid_runs.proofs.ReadBack.{bits_read_back, length-run_text_small, length-grouped}
 use Rattle.plain_pages.specs.Cells.{Cell, null, bool, int32, int64, bytes}
 use Rattle.plain_pages.specs.Plain.{cell_at, value_of, value_size, next_place, place_of_byte, places, bit_there}
-use Rattle.plain_pages.specs.PageInside.{ranks_from, levels_before, levels_within, levels_read, values_read, index_read, ranked, cells_of, page_read}
+use Rattle.plain_pages.specs.PageInside.{ranks_from, levels_before, levels_within, levels_read, values_read, index_read, cell_of_rank, cells_of, page_read}
 use Rattle.plain_pages.specs.Pages.{all_there, count_below, all_below, defined, is_coded, page}
 use Rattle.plain_pages.specs.Columns.{IsValueOf, AreCellsOf, text_of, values_text, level_of, levels_of, plain_text, levels_text, page_of, page_text, IsPageOf}
 use Rattle.plain_pages.proofs.Kept.{ReadsAs, reads_as}
@@ -89,7 +89,7 @@ valued (int32 n ∷ cells) = int32 n ∷ valued cells
 valued (int64 n ∷ cells) = int64 n ∷ valued cells
 valued (bytes xs ∷ cells) = bytes xs ∷ valued cells
 
--- a kind whose places are bytes
+-- the places of this type are byte offsets
 record Bytewise (kind : ColumnKind) : Type 0 where
   next : (p : ℕ) (body : List ℕ) → next_place kind p body ≡ p + value_size kind (drop p body)
   end : (n : ℕ) → place_of_byte kind n ≡ n
@@ -127,13 +127,13 @@ slice_get_at [] after cell = refl
 slice_get_at (b ∷ before) after cell = slice_get_at before after cell
 
 rank_turn : (before after : List Cell) (cell : Cell) (levels : List ℕ) (cells : List Cell)
-    → map (ranked ((before ++ cell ∷ []) ++ after)) (ranks_from (length (before ++ cell ∷ [])) levels) ≡ cells
-    → ranked (before ++ cell ∷ after) (Some (length before)) ∷ map (ranked (before ++ cell ∷ after)) (ranks_from (length before + 1) levels) ≡ cell ∷ cells
+    → map (cell_of_rank ((before ++ cell ∷ []) ++ after)) (ranks_from (length (before ++ cell ∷ [])) levels) ≡ cells
+    → cell_of_rank (before ++ cell ∷ after) (Some (length before)) ∷ map (cell_of_rank (before ++ cell ∷ after)) (ranks_from (length before + 1) levels) ≡ cell ∷ cells
 rank_turn before after cell levels cells rest =
     let sizes : length (before ++ cell ∷ []) ≡ length before + 1 = length-append before (cell ∷ []) in
     rw (slice_get_at before after cell, ← sizes, ← append_assoc before (cell ∷ []) after) (ap (λ cs. cell ∷ cs) rest)
 
-ranks_back : (before cells : List Cell) → map (ranked (before ++ valued cells)) (ranks_from (length before) (levels_of cells)) ≡ cells
+ranks_back : (before cells : List Cell) → map (cell_of_rank (before ++ valued cells)) (ranks_from (length before) (levels_of cells)) ≡ cells
 ranks_back before [] = refl
 ranks_back before (null ∷ cells) = ap (λ cs. null ∷ cs) (ranks_back before cells)
 ranks_back before (bool b ∷ cells) = rank_turn before (valued cells) (bool b) (levels_of cells) cells (ranks_back (before ++ bool b ∷ []) cells)
@@ -166,7 +166,7 @@ grouped_at (suc g) bits i h l = elim (cases_lt i 8) [
       rw (group, bit) (grouped_at g (drop 8 bits) (i - 8) (omega (arith, length-drop 8 bits)) (omega arith) ∙ ap (λ n. n % 2) (get_or-drop 8 bits (i - 8) 0 ∙ ap (λ n. slice_index bits n) same))
 ]
 
--- the bits behind other bytes
+-- the bits of packed booleans that follow other bytes
 bits_behind : (pre bits : List ℕ) (i : ℕ) → i < length bits → bit_there (8 * length pre + i) (pre ++ bits_text bits) ≡ (slice_index bits i % 2 == 1)
 bits_behind pre bits i h =
     let byte : (8 * length pre + i) / 8 ≡ length pre + i / 8 = omega arith in

@@ -1,4 +1,4 @@
--- The cells by their numbers are those that a page's index finds.
+-- The cells that the specification `page` defines by their numbers are the cells that a page's index finds.
 use Rattle.std.proofs.Common.{◌≡◌, ℕ, zero, suc, ◌+◌, ◌-◌, ◌≤◌, ◌<◌, ◌==◌, nat_lt, Bool, true, false, if◌then◌else◌, List, [], ◌∷◌, ◌++◌, drop, map, length, Result, Ok, Err, inl, inr, refl, sym, ap, ◌∙◌, arith, append_assoc, length-append, length-drop}
 use Rattle.std.specs.Int.{w32, cast_unsigned}
 use Rattle.std.specs.List.{slice_index}
@@ -14,7 +14,7 @@ use Rattle.pme_base.specs.Steps.{◌>>=◌}
 use Rattle.plain_pages.specs.Cells.{Cell}
 use Rattle.plain_pages.specs.PlacesInside.{even}
 use Rattle.plain_pages.specs.Pages.{bad_page, levels_size, values_start, levels, defined, values, cell_number, cells, is_coded, page}
-use Rattle.plain_pages.specs.PageInside.{ranks_from, levels_before, levels_within, levels_read, values_read, index_read, value_at, ranked, cells_of, cells_told, page_read}
+use Rattle.plain_pages.specs.PageInside.{ranks_from, levels_before, levels_within, levels_read, values_read, index_read, value_at, cell_of_rank, cells_of, cells_by_index, page_read}
 
 lt_true : (m n : ℕ) → m < n → nat_lt m n ≡ true
 lt_true m n h = grind arith
@@ -42,15 +42,15 @@ defined-append (zero ∷ xs) ys = defined-append xs ys
 defined-append (suc _ ∷ xs) ys = omega (arith, defined-append xs ys)
 
 by_number_turn : (pre ls : List ℕ) (l k : ℕ) (vs : List Cell) → defined (pre ++ l ∷ []) ≡ k
-    → map (cell_number ((pre ++ l ∷ []) ++ ls) vs) (even (length (pre ++ l ∷ [])) 1 (length ls)) ≡ map (ranked vs) (ranks_from (defined (pre ++ l ∷ [])) ls)
-    → map (cell_number (pre ++ l ∷ ls) vs) (even (length pre + 1) 1 (length ls)) ≡ map (ranked vs) (ranks_from k ls)
+    → map (cell_number ((pre ++ l ∷ []) ++ ls) vs) (even (length (pre ++ l ∷ [])) 1 (length ls)) ≡ map (cell_of_rank vs) (ranks_from (defined (pre ++ l ∷ [])) ls)
+    → map (cell_number (pre ++ l ∷ ls) vs) (even (length pre + 1) 1 (length ls)) ≡ map (cell_of_rank vs) (ranks_from k ls)
 by_number_turn pre ls l k vs e before =
     let sizes : length (pre ++ l ∷ []) ≡ length pre + 1 = length-append pre (l ∷ []) in
     rw (← sizes, ← append_assoc pre (l ∷ []) ls, ← e) before
 
--- the cells of the levels behind others
+-- the cells for levels that follow other levels
 by_number : (pre ls : List ℕ) (vs : List Cell)
-    → map (cell_number (pre ++ ls) vs) (even (length pre) 1 (length ls)) ≡ map (ranked vs) (ranks_from (defined pre) ls)
+    → map (cell_number (pre ++ ls) vs) (even (length pre) 1 (length ls)) ≡ map (cell_of_rank vs) (ranks_from (defined pre) ls)
 by_number pre [] vs = refl
 by_number pre (zero ∷ ls) vs =
     let none : defined pre + 0 ≡ defined pre = omega arith in
@@ -58,7 +58,7 @@ by_number pre (zero ∷ ls) vs =
 by_number pre (suc l ∷ ls) vs =
     rw (at_end pre ls (suc l), suc_not_0 l, take_at pre (suc l ∷ ls) (length pre) refl, by_number_turn pre ls (suc l) (defined pre + 1) vs (defined-append pre (suc l ∷ [])) (by_number (pre ++ suc l ∷ []) ls vs))
 
-cells-ranked : (ls : List ℕ) (vs : List Cell) → cells ls vs ≡ map (ranked vs) (ranks_from 0 ls)
+cells-ranked : (ls : List ℕ) (vs : List Cell) → cells ls vs ≡ map (cell_of_rank vs) (ranks_from 0 ls)
 cells-ranked ls vs = by_number [] ls vs
 
 -- ---- levels
@@ -89,21 +89,21 @@ values-read place kind true entries n start body = refl
 -- ---- pages
 values_by : (kind : ColumnKind) (coded : Bool) (entries : List Cell) (body ones : List ℕ) (read : Result (List ℕ) Refusal)
     → ((read >>= (λ found. Ok (map (value_at kind coded entries body) found))) >>= (λ vs. Ok (cells ones vs)))
-    ≡ cells_told entries body (read >>= (λ found. Ok (record { kind = kind; coded = coded; ranks = ranks_from 0 ones; places = found })))
+    ≡ cells_by_index entries body (read >>= (λ found. Ok (record { kind = kind; coded = coded; ranks = ranks_from 0 ones; places = found })))
 unfolding cells_of
 values_by kind coded entries body ones (Ok found) = ap Ok (cells-ranked ones (map (value_at kind coded entries body) found))
 values_by kind coded entries body ones (Err refusal) = refl
 
 levels_by : (place : Place) (kind : ColumnKind) (coded : Bool) (entries : List Cell) (start : ℕ) (body : List ℕ) (read : Result (List ℕ) Refusal)
     → (read >>= (λ ones. values place kind coded entries (defined ones) start body >>= (λ vs. Ok (cells ones vs))))
-    ≡ cells_told entries body ((read >>= (λ ones. Ok (levels_before start ones))) >>= (λ levels.
+    ≡ cells_by_index entries body ((read >>= (λ ones. Ok (levels_before start ones))) >>= (λ levels.
     values_read place kind coded (length entries) levels.defined levels.start body >>= (λ found.
     Ok (record { kind = kind; coded = coded; ranks = levels.ranks; places = found }))))
 levels_by place kind coded entries start body (Ok ones) =
     rw (values-read place kind coded entries (defined ones) start body) (values_by kind coded entries body ones (values_read place kind coded (length entries) (defined ones) start body))
 levels_by place kind coded entries start body (Err refusal) = refl
 
--- the page's cells by their numbers are those of its index
+-- the specification's cells are the cells that are read through the index
 pub page-read : (place : Place) (spec : ColumnSpec) (head : DataHead) (entries : List Cell) (body : List ℕ)
     → page place spec head entries body ≡ page_read place spec head entries body
 unfolding page index_read

@@ -1,4 +1,4 @@
--- Levels that are all 1, byte arrays one behind the other, and values of one size.
+-- Lemmas about levels that are all 1, the places of byte arrays and of values of a fixed size, and single values.
 use Rattle.std.proofs.Common.{◌≡◌, ℕ, ℤ, zero, suc, ◌+◌, ◌*◌, ◌≤◌, nat_le, min, Bool, true, false, if◌then◌else◌, List, [], ◌∷◌, ◌++◌, take, drop, map, length, replicate, None, Some, refl, sym, ap, ◌∙◌, arith, append_assoc, length-drop}
 use Rattle.std.specs.Int.{w64, cast_signed, from_le_bytes}
 use Rattle.std.proofs.lemmas.List.{length-map}
@@ -9,7 +9,7 @@ use Rattle.plain_pages.specs.Cells.{Cell, int64}
 use Rattle.plain_pages.specs.Plain.{cell_at, places, next_place, place_of_byte, fixed_size}
 use Rattle.plain_pages.specs.PlacesInside.{even, stepped}
 use Rattle.plain_pages.specs.declared.page_index.PageIndex.{PageIndex}
-use Rattle.plain_pages.specs.PageInside.{ranks_from, cells_of, ranked, value_at}
+use Rattle.plain_pages.specs.PageInside.{ranks_from, cells_of, cell_of_rank, value_at}
 use Rattle.plain_pages.specs.Pages.{defined}
 
 le_true : (m n : ℕ) → m ≤ n → nat_le m n ≡ true
@@ -65,10 +65,10 @@ arrays_turn vs more m k p next body e pushed found =
     let so = some_if _ (next_place ByteArray p body) next found in
     rw (e, pushed, so.0, so.1) (sym (append_assoc vs (p ∷ []) (places ByteArray k (next_place ByteArray p body) body)))
 
-places_by : (kind : ColumnKind) (size room n p : ℕ) (body : List ℕ) → ((q : ℕ) → next_place kind q body ≡ q + size) → place_of_byte kind (length body) ≡ room
-    → places kind n p body ≡ stepped size room n p
-places_by kind size room zero p body next end = refl
-places_by kind size room (suc n) p body next end = rw (next p, end) (ap (λ ps. if nat_le (p + size) room then p ∷ ps else []) (places_by kind size room n (p + size) body next end))
+places_by : (kind : ColumnKind) (size fit n p : ℕ) (body : List ℕ) → ((q : ℕ) → next_place kind q body ≡ q + size) → place_of_byte kind (length body) ≡ fit
+    → places kind n p body ≡ stepped size fit n p
+places_by kind size fit zero p body next end = refl
+places_by kind size fit (suc n) p body next end = rw (next p, end) (ap (λ ps. if nat_le (p + size) fit then p ∷ ps else []) (places_by kind size fit n (p + size) body next end))
 
 pub places-stepped : (kind : ColumnKind) (size n p : ℕ) (body : List ℕ) → Some size ≡ fixed_size kind
     → places kind n p body ≡ stepped size (place_of_byte kind (length body)) n p
@@ -81,13 +81,13 @@ places-stepped Double size n p body e = let is : 8 ≡ size = cc in rw (← is) 
 places-stepped (Fixed m) size n p body e = let is : m ≡ size = cc in rw (← is) (places_by (Fixed m) m _ n p body (λ q. refl) refl)
 places-stepped ByteArray size n p body e = absurd (cc)
 
--- of the bytes that hold booleans, no more count than there are values
+-- for booleans the bytes after the first `start + count` bytes don't matter
 pub bits_within : (kind : ColumnKind) (size count start bytes : ℕ) → kind ≡ Boolean → Some size ≡ fixed_size kind
     → stepped size (8 * min bytes (start + count)) count (8 * start) ≡ stepped size (place_of_byte kind bytes) count (place_of_byte kind start)
 bits_within Boolean size count start bytes is e =
     let one : size ≡ 1 = cc in
-    let room : 8 * min bytes (start + count) ≡ min (8 * bytes) (8 * (start + count)) = omega arith in
-    rw (one, room) (stepped-within count 1 (8 * bytes) (8 * (start + count)) (8 * start) (omega arith))
+    let fit : 8 * min bytes (start + count) ≡ min (8 * bytes) (8 * (start + count)) = omega arith in
+    rw (one, fit) (stepped-within count 1 (8 * bytes) (8 * (start + count)) (8 * start) (omega arith))
 bits_within _ size count start bytes is e = cc is
 
 -- ---- one value
@@ -100,6 +100,6 @@ int64_there place body bytes n there e value =
 -- ---- cells
 pub cells_of-length : (index : PageIndex) (entries : List Cell) (body : List ℕ) → length (cells_of index entries body) ≡ length index.ranks
 unfolding cells_of
-cells_of-length index entries body = length-map index.ranks (ranked (map (value_at index.kind index.coded entries body) index.places))
+cells_of-length index entries body = length-map index.ranks (cell_of_rank (map (value_at index.kind index.coded entries body) index.places))
 
 pub ruleset cell_counts = (cells_of-length)

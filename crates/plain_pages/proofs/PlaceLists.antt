@@ -1,4 +1,4 @@
--- Places at one distance from each to the next.
+-- Lemmas about evenly spaced places.
 use Rattle.std.proofs.Common.{◌≡◌, ℕ, zero, suc, ◌+◌, ◌-◌, ◌*◌, ◌<◌, ◌≤◌, nat_le, true, false, min, ◌∷◌, map, length, None, Some, [], refl, ap, ◌∙◌, arith}
 use Rattle.std.specs.Prelude.{if◌then◌else◌}
 use Rattle.std.specs.List.{slice_get}
@@ -38,28 +38,28 @@ slice_get-every_past n k h = slice_get-map Some (even 0 1 n) k ∙ ap (option_ma
 pub length-every : (n : ℕ) → length (map Some (even 0 1 n)) ≡ n
 length-every n = length-map (even 0 1 n) Some ∙ length-even 0 1 n
 
--- as many places as fit into the room are written out
-pub stepped-even : (n size room place fit : ℕ) → place ≤ room → size * fit ≤ room - place → room - place < size * suc fit
-    → stepped size room n place ≡ even place size (min n fit)
-stepped-even zero size room place fit inside low high = let e : min 0 fit ≡ 0 = omega arith in rw e
-stepped-even (suc n) size room place zero inside low high =
+-- the places of values that end before `end` are the first `fit` evenly spaced places
+pub stepped-even : (n size end place fit : ℕ) → place ≤ end → size * fit ≤ end - place → end - place < size * suc fit
+    → stepped size end n place ≡ even place size (min n fit)
+stepped-even zero size end place fit inside low high = let e : min 0 fit ≡ 0 = omega arith in rw e
+stepped-even (suc n) size end place zero inside low high =
     let e : min (suc n) 0 ≡ 0 = omega arith in
-    rw (le_false (place + size) room (omega arith), e)
-stepped-even (suc n) size room place (suc fit) inside low high =
+    rw (le_false (place + size) end (omega arith), e)
+stepped-even (suc n) size end place (suc fit) inside low high =
     let e : min (suc n) (suc fit) ≡ suc (min n fit) = omega arith in
-    rw (le_true (place + size) room (omega arith), e)
-    (ap (λ ps. place ∷ ps) (stepped-even n size room (place + size) fit (omega arith) (omega arith) (omega arith)))
+    rw (le_true (place + size) end (omega arith), e)
+    (ap (λ ps. place ∷ ps) (stepped-even n size end (place + size) fit (omega arith) (omega arith) (omega arith)))
 
-pub stepped-same : (n room place : ℕ) → place ≤ room → stepped 0 room n place ≡ even place 0 n
-stepped-same zero room place inside = refl
-stepped-same (suc n) room place inside =
+pub stepped-same : (n end place : ℕ) → place ≤ end → stepped 0 end n place ≡ even place 0 n
+stepped-same zero end place inside = refl
+stepped-same (suc n) end place inside =
     let e : place + 0 ≡ place = omega arith in
-    rw (e, le_true place room inside) (ap (λ ps. place ∷ ps) (stepped-same n room place inside))
+    rw (e, le_true place end inside) (ap (λ ps. place ∷ ps) (stepped-same n end place inside))
 
--- no more of the room counts than the values need
-pub stepped-within : (n size room limit place : ℕ) → place + size * n ≤ limit → stepped size (min room limit) n place ≡ stepped size room n place
-stepped-within zero size room limit place h = refl
-stepped-within (suc n) size room limit place h =
+-- limiting the end doesn't matter if all n values fit below the limit
+pub stepped-within : (n size end limit place : ℕ) → place + size * n ≤ limit → stepped size (min end limit) n place ≡ stepped size end n place
+stepped-within zero size end limit place h = refl
+stepped-within (suc n) size end limit place h =
     let more : place + size + size * n ≤ limit = omega arith in
-    let same : nat_le (place + size) (min room limit) ≡ nat_le (place + size) room = grind arith in
-    rw same (ap (λ ps. if nat_le (place + size) room then place ∷ ps else []) (stepped-within n size room limit (place + size) more))
+    let same : nat_le (place + size) (min end limit) ≡ nat_le (place + size) end = grind arith in
+    rw same (ap (λ ps. if nat_le (place + size) end then place ∷ ps else []) (stepped-within n size end limit (place + size) more))

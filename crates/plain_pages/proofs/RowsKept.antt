@@ -1,4 +1,4 @@
--- The levels and the bytes of some rows of a column.
+-- Lemmas about a range of rows: its definition levels and its part of the stored bytes.
 use Rattle.std.proofs.Common.{inl, inr, ◌≡◌, ◌≢◌, true, ℕ, zero, suc, ◌+◌, ◌*◌, ◌-◌, ◌<◌, ◌≤◌, List, [], ◌∷◌, ◌++◌, take, drop, length, get_or, refl, sym, ap, ◌∙◌, arith, append_assoc, length-append, length-take}
 use Rattle.std.proofs.Math.Seq.{take-add, take-suc}
 use Rattle.std.proofs.lemmas.Bool.{cases_Bool}
@@ -27,7 +27,7 @@ pub end_le : (kind : ColumnKind) (to : ℕ) (cells : List Cell) → length (valu
 end_le kind to cells =
     omega (arith, ap length (values_split kind to cells), length-append (values_text kind (take to cells)) (values_text kind (drop to cells)))
 
--- the bytes between the starts of two rows
+-- the bytes between the starts of two rows are the stored bytes of the rows between them
 pub values_cut : (kind : ColumnKind) (from to start end : ℕ) (cells : List Cell) (values : List ℕ) → from ≤ to → values ≡ values_text kind cells
     → start ≡ length (values_text kind (take from cells)) → end ≡ length (values_text kind (take to cells))
     → take (end - start) (drop start values) ≡ values_text kind (rows_between from to cells)
@@ -56,7 +56,7 @@ split_at [] row h = absurd (omega arith)
 split_at (c ∷ cells) zero h = refl
 split_at (c ∷ cells) (suc row) h = ap (λ cs. c ∷ cs) (split_at cells row (omega arith))
 
--- the bytes before a row, its own, and those behind
+-- the stored bytes are the bytes of the rows before a row, of the row itself, and of the rows after it
 values_at : (kind : ColumnKind) (cells : List Cell) (row : ℕ) → row < length cells
     → values_text kind cells ≡ values_text kind (take row cells) ++ (text_of kind (get_or cells row null) ++ values_text kind (drop (suc row) cells))
 values_at kind cells row h = ap (values_text kind) (split_at cells row h) ∙ values_text-append kind (take row cells) (get_or cells row null ∷ drop (suc row) cells)
@@ -85,13 +85,13 @@ value_by spec (int32 n) h e = h
 value_by spec (int64 n) h e = h
 value_by spec (bytes xs) h e = h
 
--- a level of 0 is a null's
+-- a cell with level 0 is null
 pub null_read : (spec : ColumnSpec) (cells : List Cell) (levels marks values : List ℕ) (row : ℕ) → Keeps spec cells levels marks values → row < length cells
     → get_or levels row 0 ≡ 0 → get_or cells row null ≡ null
 null_read spec cells levels marks values row k h e =
     null_by (get_or cells row null) (sym (level_at cells row h) ∙ ap (λ ls. get_or ls row 0) (sym k.levels_are) ∙ e)
 
--- any other is the level of a value, which is read where its bytes begin
+-- a cell with another level is the value that is read at its offset
 pub value_read : (spec : ColumnSpec) (cells : List Cell) (levels marks values : List ℕ) (row : ℕ) → Keeps spec cells levels marks values → row < length cells
     → get_or levels row 0 ≢ 0 → value_kept spec.kind (start_of spec.kind cells row) values ≡ get_or cells row null
 value_read spec cells levels marks values row k h e =
@@ -108,7 +108,7 @@ size_by spec (int32 n) rest h = (reads_as spec.kind (int32 n) h).size rest
 size_by spec (int64 n) rest h = (reads_as spec.kind (int64 n) h).size rest
 size_by spec (bytes xs) rest h = (reads_as spec.kind (bytes xs) h).size rest
 
--- the bytes of a row end where those of the next begin
+-- a row's bytes end at the offset of the next row
 pub row_passed : (spec : ColumnSpec) (cells : List Cell) (levels marks values : List ℕ) (row start level : ℕ) → Keeps spec cells levels marks values → row < length cells
     → level ≡ get_or levels row 0 → start ≡ start_of spec.kind cells row → start + size_kept spec.kind level (drop start values) ≡ start_of spec.kind cells (row + 1)
 row_passed spec cells levels marks values row start level k h e s =
@@ -126,15 +126,15 @@ row_passed spec cells levels marks values row start level k h e s =
     ap (λ cs. length (values_text kind cs)) next ∙ ap length (values_text-push kind (take row cells) cell) ∙ length-append pre (text_of kind cell) in
     omega (arith, size, s, behind)
 
--- the same of the code's steps, which stay inside the bytes
+-- one step of the loop in `start_of` reaches the next row's offset, which is within the bytes
 pub row_step : (spec : ColumnSpec) (cells : List Cell) (levels marks values : List ℕ) (row start level size : ℕ) → Keeps spec cells levels marks values → row < length cells
     → level ≡ get_or levels row 0 → start ≡ start_of spec.kind cells row
     → (start + size_kept spec.kind level (drop start values) ≤ length values → size ≡ size_kept spec.kind level (drop start values))
     → (start + size ≡ start_of spec.kind cells (row + 1)) × (start + size ≤ length values)
-row_step spec cells levels marks values row start level size k h e s told =
+row_step spec cells levels marks values row start level size k h e s answered =
     let next = row_passed spec cells levels marks values row start level k h e s in
     let inside : start_of spec.kind cells (row + 1) ≤ length values = omega (arith, end_le spec.kind (row + 1) cells, ap length k.values_are) in
-    let same : size ≡ size_kept spec.kind level (drop start values) = told (omega (arith, next, inside)) in
+    let same : size ≡ size_kept spec.kind level (drop start values) = answered (omega (arith, next, inside)) in
     let whole : start + size ≡ start_of spec.kind cells (row + 1) = omega (arith, same, next) in
     (whole, omega (arith, whole, inside))
 
@@ -142,7 +142,7 @@ pub mark_read : (spec : ColumnSpec) (cells : List Cell) (levels marks values : L
     → start ≡ get_or marks row 0 → start ≡ start_of spec.kind cells (16 * row)
 mark_read spec cells levels marks values row start k h e = e ∙ k.marks_are.place row h
 
--- the row behind the last begins behind all bytes
+-- the offset of the row after the last is the number of stored bytes
 pub end_read : (spec : ColumnSpec) (cells : List Cell) (levels marks values : List ℕ) (row end : ℕ) → Keeps spec cells levels marks values → length cells ≤ row
     → end ≡ length values → end ≡ start_of spec.kind cells row
 end_read spec cells levels marks values row end k h e =
@@ -164,7 +164,7 @@ all_rows spec from to cells h = all_take spec (to - from) (drop from cells) (all
 pub few_rows : (from to : ℕ) (cells : List Cell) → length (rows_between from to cells) ≤ to - from
 few_rows from to cells = omega (arith, length-take (to - from) (drop from cells))
 
--- levels of a column that isn't OPTIONAL are not written
+-- a page of a REQUIRED column doesn't depend on its levels
 pub page_same : (spec : ColumnSpec) (levels all values : List ℕ) → (spec.optional ≡ true → levels ≡ all) → page_of spec levels values ≡ page_of spec all values
 unfolding page_of
 page_same spec levels all values same = elim (cases_Bool spec.optional) [

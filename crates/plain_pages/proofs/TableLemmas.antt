@@ -1,4 +1,4 @@
--- Columns of one length and of different names.
+-- Lemmas for Table::add: a column of the right length and with a new name keeps the columns a table.
 use Rattle.std.proofs.Common.{◌≡◌, ◌≢◌, ℕ, zero, suc, List, [], ◌∷◌, ◌++◌, length, Some, refl, sym}
 use Rattle.std.specs.List.{slice_get}
 use Rattle.plain_pages.specs.ColumnSpecs.{IsColumnSpec}

@@ -1,4 +1,4 @@
--- The cells of a column: nulls, and values by the physical type that the column has.
+-- The cells of a column: nulls and values. Types other than BOOLEAN, INT32 and INT64 are kept as bytes.
 use Rattle.std.specs.Prelude.{ℕ, ℤ, Bool, List}
 use Rattle.plain_pages.specs.declared.cell_ref.CellRef.{CellRef}
 use Rattle.plain_pages.specs.declared.cell_ref.CellRef.TheVariants.{Null, Bool as BoolRef, Int32, Int64, Bytes}
@@ -10,7 +10,7 @@ pub data Cell : Type 0 where
   int64 : ℤ → Cell
   bytes : List ℕ → Cell
 
--- the cell that is lent
+-- the cell that a CellRef borrows
 abbrev pub cell_of : CellRef → Cell
 cell_of Null = null
 cell_of (BoolRef b) = bool b

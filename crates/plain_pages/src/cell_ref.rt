@@ -1,4 +1,6 @@
-/// A cell that is lent. INT96, FLOAT, DOUBLE and both kinds of byte array are bytes as the file has them.
+// A borrowed cell of a column or a page.
+
+/// A borrowed cell. INT96, FLOAT, DOUBLE, BYTE_ARRAY and FIXED_LEN_BYTE_ARRAY are the bytes as the file has them.
 #[derive(Clone, Copy, Debug, PartialEq, Eq, Drop)]
 pub enum CellRef<'a> {
     Null,

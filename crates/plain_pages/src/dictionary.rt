@@ -1,4 +1,6 @@
+// The entries of a dictionary page.
 ghost use Rattle.std.specs.Prelude.{◌≡◌, true, length, slice_get, unwrap_or, IfErr};
+ghost use Rattle.pme_base.specs.Causes.{CausedBy};
 ghost use Rattle.pme_base.specs.Steps.{Answers, Quiet};
 ghost use Rattle.plain_pages.specs.Cells.{cell_of, null as null_cell};
 ghost use Rattle.plain_pages.specs.Pages as pages;
@@ -12,7 +14,7 @@ use pme_base::{Bytes, PagePart, Place, Refusal};
 use std::alloc::Global;
 use std::marker::Model;
 
-/// The body of a dictionary page, with the places of its entries. A contract sees it as the list of the entries.
+/// The body of a dictionary page with the position of each entry. Contracts see it as the list of its entries.
 #[derive(Debug, Drop)]
 pub struct Dictionary {
     kind: ColumnKind,
@@ -31,8 +33,8 @@ impl Model for Dictionary {
 }
 
 impl Dictionary {
-    /// The dictionary of `count` PLAIN entries in `body`. BadPage tells the number of the first entry that isn't
-    /// there; bytes behind the last are unread.
+    /// Reads the dictionary of `count` PLAIN entries in `body`. BadPage reports the number of the first entry that
+    /// `body` doesn't hold completely; bytes after the last entry are not read.
     #[tactic(auto, unfolding(crate::specs::Pages::all_there))]
     pub fn build(
         alloc: Global,
@@ -43,15 +45,15 @@ impl Dictionary {
     ) -> Result<Dictionary, Refusal>
         ensures answers { Answers result (pages.dictionary place.now spec.now count body) }
         ensures quiet { Quiet result }
-        ensures causes { IfErr result (λ refusal. pages.is_page_cause refusal.cause ≡ true) }
+        ensures causes { CausedBy pages.is_page_cause result }
     {
         let places = match plain_places(alloc, spec.kind, count as usize, 0, body.as_slice()) {
             Ok(places) => places,
             Err(_) => return Err(no_memory()),
         };
-        let there = places.len();
-        if there != count as usize {
-            return Err(bad_page(place, PagePart::Dictionary, there));
+        let valid = places.len();
+        if valid != count as usize {
+            return Err(bad_page(place, PagePart::Dictionary, valid));
         }
         Ok(Dictionary {
             kind: spec.kind,
@@ -60,14 +62,14 @@ impl Dictionary {
         })
     }
 
-    /// How many entries there are.
+    /// The number of entries.
     pub(crate) fn len(&self) -> usize
         ensures { result ≡ length self.now }
     {
         self.places.len()
     }
 
-    /// The entry of this number; null where there is none.
+    /// Entry number `i`, or null if the dictionary has fewer entries.
     pub(crate) fn entry(&self, i: usize) -> CellRef<'_>
         ensures { cell_of result ≡ pages.entry_at self.now i }
     {

@@ -1,4 +1,6 @@
-ghost use Rattle.std.specs.Prelude.{◌≡◌, ◌+◌, ◌^◌, ◌<◌, ◌≤◌, ◌==◌, length, take, if◌then◌else◌, IfOk, IfErr, true};
+// The definition levels of a data page.
+ghost use Rattle.std.specs.Prelude.{◌≡◌, ◌+◌, ◌^◌, ◌<◌, ◌≤◌, ◌==◌, length, take, if◌then◌else◌, IfOk};
+ghost use Rattle.pme_base.specs.Causes.{CausedBy};
 ghost use Rattle.pme_base.specs.Steps.{Answers, Quiet};
 ghost use Rattle.plain_pages.specs.PageInside as inside;
 ghost use Rattle.plain_pages.specs.Pages as pages;
@@ -9,8 +11,8 @@ use hybrid_runs::first_values;
 use pme_base::{OutOfMemory, PagePart, Place, Refusal};
 use std::alloc::Global;
 
-/// What the levels of a page tell: the rank of each cell, how many values are defined, and the byte of the body at
-/// which they begin.
+/// The decoded definition levels of a page: the rank of each cell, the number of defined values, and the offset in the
+/// body at which the values begin.
 #[derive(Debug, Drop)]
 pub struct LevelsRead {
     pub ranks: Ranks,
@@ -18,8 +20,9 @@ pub struct LevelsRead {
     pub start: usize,
 }
 
-/// The levels of a page of so many cells: all 1 in a REQUIRED column, else a hybrid of width 1 behind its length in
-/// four bytes.
+/// Reads the definition levels of a page with `count` cells. In a REQUIRED column they are all 1; in an OPTIONAL one
+/// they are an RLE/bit-packed hybrid of bit width 1, preceded by its length in four bytes. BadPage reports the first
+/// level that is missing or above 1.
 #[tactic(auto, unfolding(crate::specs::PageInside::levels_read))]
 pub fn read_levels(
     alloc: Global,
@@ -35,7 +38,7 @@ pub fn read_levels(
     ensures near { IfOk result (λ levels. levels.start < 2 ^ 33) }
     ensures defined { IfOk result (λ levels. levels.defined ≤ count) }
     ensures quiet { Quiet result }
-    ensures causes { IfErr result (λ refusal. pages.is_page_cause refusal.cause ≡ true) }
+    ensures causes { CausedBy pages.is_page_cause result }
 {
     if !optional {
         return Ok(LevelsRead {
@@ -56,7 +59,7 @@ pub fn read_levels(
     )
 }
 
-/// The levels in a hybrid of so many bytes.
+/// Reads `count` definition levels from a hybrid that takes the first `size` of `bytes`.
 #[tactic(auto, unfolding(crate::specs::PageInside::levels_within, crate::specs::Pages::all_below))]
 fn read_hybrid(
     alloc: Global,
@@ -73,7 +76,7 @@ fn read_hybrid(
     ensures near { IfOk result (λ levels. levels.start < 2 ^ 33) }
     ensures defined { IfOk result (λ levels. levels.defined ≤ count) }
     ensures quiet { Quiet result }
-    ensures causes { IfErr result (λ refusal. pages.is_page_cause refusal.cause ≡ true) }
+    ensures causes { CausedBy pages.is_page_cause result }
 {
     if bytes.len() < size {
         return Err(bad_page(place, PagePart::Levels, 0));
@@ -82,17 +85,17 @@ fn read_hybrid(
         Ok(levels) => levels,
         Err(_) => return Err(no_memory()),
     };
-    let there = count_below(2, levels.as_slice());
-    if there != count {
-        return Err(bad_page(place, PagePart::Levels, there));
+    let valid = count_below(2, levels.as_slice());
+    if valid != count {
+        return Err(bad_page(place, PagePart::Levels, valid));
     }
-    match numbered(alloc, 4 + size, levels.as_slice()) {
+    match ranks_of_levels(alloc, 4 + size, levels.as_slice()) {
         Ok(read) => Ok(read),
         Err(_) => Err(no_memory()),
     }
 }
 
-/// How many values from the front on are below a limit.
+/// The number of leading values that are below `limit`.
 pub fn count_below(limit: usize, values: &[u32]) -> usize
     ensures { result ≡ pages.count_below limit values.now }
 {
@@ -106,8 +109,8 @@ pub fn count_below(limit: usize, values: &[u32]) -> usize
     count
 }
 
-/// The ranks that levels give, before values that begin at `start`.
-fn numbered(alloc: Global, start: usize, levels: &[u32]) -> Result<LevelsRead, OutOfMemory>
+/// The ranks of the cells with these definition levels, for a page whose values begin at offset `start`.
+fn ranks_of_levels(alloc: Global, start: usize, levels: &[u32]) -> Result<LevelsRead, OutOfMemory>
     requires { length levels.now < 2 ^ 31 }
     ensures read { IfOk result (λ read. read ≡ inside.levels_before start levels.now) }
     ensures count { IfOk result (λ read. length read.ranks ≡ length levels.now) }

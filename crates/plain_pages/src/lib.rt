@@ -1,4 +1,5 @@
-// The cells of a page: where each value of a body begins, and the cells that a view lends without a copy.
+//! The cells of data pages and dictionary pages (PLAIN or dictionary-encoded), columns and tables in memory, and the
+//! writing of PLAIN pages.
 #![tactic(auto)]
 
 ghost use Rattle.plain_pages.specs.Columns.{PagesReadBack};
@@ -23,7 +24,7 @@ pub use page_view::PageView;
 pub use table::{Table, write_page};
 pub use table_column::TableColumn;
 
-/// The law that a page's text is read back as its cells.
+/// A page that is written from cells is read back as the same cells.
 pub fn pages_are_read_back()
     ensures { PagesReadBack }
 {}

@@ -1,3 +1,4 @@
+// The cells of a data page, read through its index.
 ghost use Rattle.std.specs.Prelude.{◌≡◌, ◌<◌, length, slice_get, unwrap_or, Some};
 ghost use Rattle.std.specs.Option.{option_copied};
 ghost use Rattle.plain_pages.specs.Cells.{cell_of, null as null_cell};
@@ -10,7 +11,7 @@ use crate::page_index::PageIndex;
 use crate::plain::cell_at;
 use std::marker::Model;
 
-/// The cells of a page, lent from its body and its dictionary. A contract sees it as the list of the cells.
+/// The cells of a page, borrowed from its body and its dictionary. Contracts see it as the list of the cells.
 #[derive(Drop)]
 pub struct PageView<'a> {
     body: &'a [u8],
@@ -31,14 +32,15 @@ impl<'a> Model for PageView<'a> {
 }
 
 impl<'a> PageView<'a> {
-    /// The cells of this body by its index; with the body and the dictionary that the index was built from, those
-    /// that `PageIndex::build` tells.
+    /// The cells that `index` finds in `body`. With the body and the dictionary that the index was built from, these
+    /// are the page's cells as `PageIndex::build` defines them.
     pub fn new(
         body: &'a [u8],
         index: &'a PageIndex,
         dictionary: Option<&'a Dictionary>,
     ) -> PageView<'a>
-        ensures { result ≡ inside.cells_of index.now (pages.entries_of (option_copied dictionary.entry)) body.now }
+        ensures { result ≡ inside.cells_of index.now
+            (pages.entries_of (option_copied dictionary.entry)) body.now }
     {
         PageView {
             body,
@@ -47,7 +49,7 @@ impl<'a> PageView<'a> {
         }
     }
 
-    /// How many cells there are, nulls included.
+    /// The number of cells, nulls included.
     #[tactic(auto, unfolding(crate::specs::PageInside::cells_of))]
     pub fn count(&self) -> usize
         ensures { result ≡ length self.now }
@@ -56,7 +58,7 @@ impl<'a> PageView<'a> {
         index.ranks.len()
     }
 
-    /// Cell `i`. It is lent from the body or the dictionary: nothing is copied.
+    /// Cell number `i`, borrowed from the body or the dictionary without a copy.
     #[tactic(auto, unfolding(crate::specs::PageInside::cells_of))]
     pub fn cell(&self, i: usize) -> CellRef<'a>
         requires { i < length self.now }
@@ -79,9 +81,10 @@ impl<'a> PageView<'a> {
     }
 }
 
-/// The entry of this number; null where there is none.
+/// Entry number `i`, or null if there is no dictionary or it has fewer entries.
 fn entry_at<'a>(dictionary: Option<&'a Dictionary>, i: usize) -> CellRef<'a>
-    ensures { cell_of result ≡ pages.entry_at (pages.entries_of (option_copied dictionary.entry)) i }
+    ensures { cell_of result ≡ pages.entry_at
+        (pages.entries_of (option_copied dictionary.entry)) i }
 {
     match dictionary {
         Some(dictionary) => dictionary.entry(i),

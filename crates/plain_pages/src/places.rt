@@ -1,19 +1,20 @@
+// Lists of the places at which values begin.
 ghost use Rattle.std.specs.Prelude.{◌≡◌, ◌+◌, ◌*◌, ◌^◌, ◌<◌, length, slice_get};
 ghost use Rattle.plain_pages.specs.PlacesInside.{even};
 
 use std::marker::Model;
 
-/// How a list of places is kept.
+/// The representation of a list of places.
 #[derive(Debug, Drop)]
 pub enum PlaceLayout {
-    /// The first, the distance from each to the next, and how many there are.
+    /// The first place, the distance from each place to the next, and the number of places.
     Even(usize, usize, usize),
     Listed(Vec<u32>),
-    /// The places in a body of 4 GiB or more.
+    /// The places in a body of 4 GiB or more, where a place may need more than 32 bits.
     Wide(Vec<usize>),
 }
 
-/// The places of values, in order: those of one size take no memory.
+/// The places at which values begin, in order. Evenly spaced places take no memory.
 #[derive(Debug, Drop)]
 pub struct Places {
     layout: PlaceLayout,
@@ -31,6 +32,7 @@ impl Model for Places {
 }
 
 impl Places {
+    /// `count` places from `first` on, each `step` after the previous one.
     pub fn even(first: usize, step: usize, count: usize) -> Places
         requires { first + step * count < 2 ^ 64 }
         ensures { result ≡ even first step count }
@@ -40,6 +42,7 @@ impl Places {
         }
     }
 
+    /// These places, in four bytes each.
     pub fn listed(places: Vec<u32>) -> Places
         ensures { result ≡ places.items }
     {
@@ -48,6 +51,7 @@ impl Places {
         }
     }
 
+    /// These places, in eight bytes each.
     pub fn wide(places: Vec<usize>) -> Places
         ensures { result ≡ places.items }
     {
@@ -56,6 +60,7 @@ impl Places {
         }
     }
 
+    /// The number of places.
     pub fn len(&self) -> usize
         ensures { result ≡ length self.now }
     {
@@ -66,6 +71,7 @@ impl Places {
         }
     }
 
+    /// Place number `k`, or None if there are fewer.
     pub fn get(&self, k: usize) -> Option<usize>
         ensures { result ≡ slice_get self.now k }
     {

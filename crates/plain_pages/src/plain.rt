@@ -1,3 +1,4 @@
+// The PLAIN encoding (parquet-format, Encodings.md): single values and the places of a list of values.
 ghost use Rattle.std.specs.Prelude.{◌≡◌, ◌+◌, ◌*◌, ◌^◌, ◌<◌, ◌≤◌, nat_le, if◌then◌else◌, drop, take, length, Some, None, IfOk};
 ghost use Rattle.std.specs.Option.{option_copied};
 ghost use Rattle.plain_pages.specs.Cells.{cell_of, bytes as bytes_cell, null as null_cell};
@@ -11,7 +12,8 @@ use parquet_types::ColumnKind;
 use pme_base::OutOfMemory;
 use std::alloc::Global;
 
-/// The value at a place of `body`; null where it isn't wholly there.
+/// The value that begins at a place of `body`, or null if `body` doesn't hold it completely. A place is a bit position
+/// for BOOLEAN and a byte offset for every other type.
 pub fn cell_at<'a>(kind: ColumnKind, place: usize, body: &'a [u8]) -> CellRef<'a>
     ensures { cell_of result ≡ plain.cell_at kind place body.now }
 {
@@ -55,7 +57,8 @@ fn int64_at<'a>(place: usize, body: &'a [u8]) -> CellRef<'a>
 }
 
 fn raw_at<'a>(size: usize, place: usize, body: &'a [u8]) -> CellRef<'a>
-    ensures { cell_of result ≡ (if nat_le (place + size) (length body.now) then bytes_cell (take size (drop place body.now)) else null_cell) }
+    ensures { cell_of result ≡ (if nat_le (place + size) (length body.now)
+        then bytes_cell (take size (drop place body.now)) else null_cell) }
 {
     if place > body.len() || size > body.len() - place {
         return CellRef::Null;
@@ -76,14 +79,15 @@ fn array_at<'a>(place: usize, body: &'a [u8]) -> CellRef<'a>
     CellRef::Bytes(&rest[..length])
 }
 
-/// The bytes from a place on.
+/// The bytes from offset `place` on; none if it is past the end.
 pub fn rest_from(place: usize, body: &[u8]) -> &[u8]
     ensures { result.now ≡ drop place body.now }
 {
     &body[place.min(body.len())..]
 }
 
-/// The places of the first `count` values from byte `start` on, as far as they are there.
+/// The places of the first `count` values from byte `start` on, up to the first value that `body` doesn't hold
+/// completely.
 pub fn plain_places(
     alloc: Global,
     kind: ColumnKind,
@@ -94,15 +98,16 @@ pub fn plain_places(
     requires start { start ≤ length body.now }
     requires near { start < 2 ^ 33 }
     requires few { count < 2 ^ 33 }
-    ensures { IfOk result (λ found. found ≡ plain.places kind count (plain.place_of_byte kind start) body.now) }
+    ensures { IfOk result (λ found. found ≡ plain.places kind count
+        (plain.place_of_byte kind start) body.now) }
 {
     match fixed_size(kind) {
-        Some(size) => Ok(sized_places(kind, size, count, start, body.len())),
+        Some(size) => Ok(fixed_size_places(kind, size, count, start, body.len())),
         None => array_places(alloc, count, start, body),
     }
 }
 
-/// How much each value of a kind takes, in places; None for byte arrays.
+/// The size of each value of a type (bits for BOOLEAN, otherwise bytes); None for byte arrays.
 pub fn fixed_size(kind: ColumnKind) -> Option<usize>
     ensures { result ≡ plain.fixed_size kind }
 {
@@ -116,16 +121,23 @@ pub fn fixed_size(kind: ColumnKind) -> Option<usize>
     }
 }
 
-/// The places of values of one size, from byte `start` of a body of `length` bytes on.
-fn sized_places(kind: ColumnKind, size: usize, count: usize, start: usize, length: usize) -> Places
+/// The places of values of a fixed size, from byte `start` of a body of `length` bytes on.
+fn fixed_size_places(
+    kind: ColumnKind,
+    size: usize,
+    count: usize,
+    start: usize,
+    length: usize,
+) -> Places
     requires start { start ≤ length }
     requires near { start < 2 ^ 33 }
     requires few { count < 2 ^ 33 }
     requires size { Some size ≡ plain.fixed_size kind }
-    ensures { result ≡ stepped size (plain.place_of_byte kind length) count (plain.place_of_byte kind start) }
+    ensures { result ≡ stepped size (plain.place_of_byte kind length) count
+        (plain.place_of_byte kind start) }
 {
     match kind {
-        // The booleans need no more than `count` bytes, and in longer bodies the number of a bit may not fit.
+        // `count` booleans need at most `count` bytes; this limit keeps the bit positions within 64 bits.
         ColumnKind::Boolean => {
             stepped_places(size, 8 * length.min(start + count), count, 8 * start)
         }
@@ -133,19 +145,19 @@ fn sized_places(kind: ColumnKind, size: usize, count: usize, start: usize, lengt
     }
 }
 
-/// The places of values of one size that lie within a room.
-fn stepped_places(size: usize, room: usize, count: usize, first: usize) -> Places
-    requires first { first ≤ room }
-    ensures { result ≡ stepped size room count first }
+/// The places of up to `count` values of `size` each, the first at `first`, which end at or before `end`.
+fn stepped_places(size: usize, end: usize, count: usize, first: usize) -> Places
+    requires first { first ≤ end }
+    ensures { result ≡ stepped size end count first }
 {
     if size == 0 {
         return Places::even(first, 0, count);
     }
-    Places::even(first, size, count.min((room - first) / size))
+    Places::even(first, size, count.min((end - first) / size))
 }
 
-/// The places of byte arrays: each begins where the one before ends. In bodies of less than 4 GiB each takes four
-/// bytes, and eight in longer ones.
+/// The places of byte arrays: each begins where the previous one ends. The list takes four bytes for each array, or
+/// eight in a body of 4 GiB or more.
 fn array_places(
     alloc: Global,
     count: usize,
@@ -200,10 +212,11 @@ fn far_arrays(alloc: Global, count: usize, start: usize, body: &[u8]) -> Result<
     Ok(Places::wide(places))
 }
 
-/// Where the byte array at a place ends, if it is wholly there.
+/// The end of the byte array at a place, or None if `body` doesn't hold it completely.
 fn array_end(place: usize, body: &[u8]) -> Option<usize>
     requires { place ≤ length body.now }
-    ensures { result ≡ (if nat_le (plain.next_place kind_of.ByteArray place body.now) (length body.now) then Some (plain.next_place kind_of.ByteArray place body.now) else None) }
+    ensures { result ≡ (if nat_le (plain.next_place kind_of.ByteArray place body.now)
+        (length body.now) then Some (plain.next_place kind_of.ByteArray place body.now) else None) }
 {
     let (length, rest) = body[place..].split_first_chunk::<4>()?;
     let length = u32::from_le_bytes(*length) as usize;

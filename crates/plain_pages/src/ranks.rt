@@ -1,21 +1,23 @@
+// The rank of each cell among the defined values of its page.
 ghost use Rattle.std.specs.Prelude.{◌≡◌, map, length, slice_get, Some, Option};
 ghost use Rattle.plain_pages.specs.PlacesInside.{even};
 ghost use Rattle.plain_pages.specs.RanksInside.{rank_in};
 
 use std::marker::Model;
 
-/// How a list of ranks is kept.
+/// The representation of a list of ranks.
 #[derive(Debug, Drop)]
 pub enum RankLayout {
-    /// So many cells, each with a value.
+    /// The number of cells, none of which is null.
     Every(usize),
-    /// A rank for each cell, or `NO_RANK`.
+    /// The rank of each cell; `NO_RANK` for a null.
     Listed(Vec<u32>),
 }
 
+/// The rank of a null.
 pub const NO_RANK: u32 = u32::MAX;
 
-/// For each cell of a page the number of its value among the values that are there, or none where it is null.
+/// The rank of each cell of a page: the number of its value among the page's values, or None for a null.
 #[derive(Debug, Drop)]
 pub struct Ranks {
     layout: RankLayout,
@@ -31,6 +33,7 @@ impl Model for Ranks {
 }
 
 impl Ranks {
+    /// The ranks of `count` cells without nulls.
     pub fn every(count: usize) -> Ranks
         ensures { result ≡ map Some (even 0 1 count) }
     {
@@ -39,6 +42,7 @@ impl Ranks {
         }
     }
 
+    /// The ranks in a list, where `NO_RANK` stands for a null.
     pub fn listed(items: Vec<u32>) -> Ranks
         ensures { result ≡ map rank_in items.items }
     {
@@ -47,6 +51,7 @@ impl Ranks {
         }
     }
 
+    /// The number of cells, nulls included.
     pub fn len(&self) -> usize
         ensures { result ≡ length self.now }
     {
@@ -56,7 +61,7 @@ impl Ranks {
         }
     }
 
-    /// The rank of cell `i`; None within Some where it is null.
+    /// The rank of cell `i`: None if there is no such cell, `Some(None)` if it is null.
     pub fn get(&self, i: usize) -> Option<Option<usize>>
         ensures { result ≡ slice_get self.now i }
     {

@@ -1,3 +1,4 @@
+// A column of a table, which keeps its cells as definition levels and encoded values.
 ghost use Rattle.std.specs.Prelude.{◌≡◌, ◌+◌, ◌<◌, ◌≤◌, ◌-◌, ◌∷◌, ◌++◌, [], true, false, length, take, drop, slice_get, Some, OnOk, OnErr};
 ghost use Rattle.std.specs.Prelude.{slice_index, ◌%◌, ◌*◌, IsOk, vec_len, vec_capacity};
 ghost use Rattle.std.specs.Int.{w32, to_le_bytes};
@@ -15,17 +16,17 @@ use pme_base::{Bytes, OutOfMemory};
 use std::alloc::Global;
 use std::marker::Model;
 
-/// A column of a table. Beside the bytes of its values it keeps half a byte for each cell, and one more where it is
-/// OPTIONAL.
+/// A column of a table. In addition to the bytes of its values it needs half a byte for each cell, and another byte if
+/// it is OPTIONAL.
 #[derive(Debug, Drop)]
 pub struct TableColumn {
     spec: ColumnSpec,
     count: usize,
-    // Of an OPTIONAL column, 0 for a null and 1 for a value, as a page's levels are; of any other, nothing.
+    // The definition levels of an OPTIONAL column: 0 for a null and 1 for a value. Empty for a REQUIRED column.
     levels: Vec<u8>,
-    // Where the bytes of each sixteenth cell begin.
+    // The offset in `values` of every sixteenth cell.
     marks: Vec<usize>,
-    // The values one behind the other: PLAIN, but a byte of 0 or 1 for a boolean.
+    // The values one after another in the PLAIN encoding, except that a boolean takes a byte of 0 or 1.
     values: Vec<u8>,
 }
 
@@ -41,8 +42,8 @@ impl Model for TableColumn {
 }
 
 impl TableColumn {
-    /// A column without cells; it takes no memory yet. A table's header can name it: its name is UTF-8 text of 1 to
-    /// 268,435,456 bytes, only byte arrays are text, and a fixed size is 1 to 65,536.
+    /// A column without cells; it allocates nothing. A table's header must be able to name it: its name is UTF-8 text
+    /// of 1 to 268,435,456 bytes, only byte arrays are text, and a fixed size is 1 to 65,536 bytes.
     pub fn new(alloc: Global, spec: ColumnSpec) -> TableColumn
         requires { IsColumnSpec spec }
         ensures { result ≡ record { spec = spec; cells = [] } }
@@ -56,14 +57,14 @@ impl TableColumn {
         }
     }
 
-    /// How many cells there are.
+    /// The number of cells.
     pub fn len(&self) -> usize
         ensures { result ≡ length self.now.cells }
     {
         self.count
     }
 
-    /// What the column is.
+    /// The name, type and optionality of the column.
     pub fn spec(&self) -> &ColumnSpec
         ensures spec { result.now ≡ self.now.spec }
         ensures named { IsColumnSpec result.now }
@@ -71,13 +72,14 @@ impl TableColumn {
         &self.spec
     }
 
-    /// Adds a cell at the end. It is one that the column may hold: a value of its physical type, of at most
-    /// 268,435,456 bytes, or null where it is optional.
-    // Inlined with what adds a value, so that a caller pays for the kind of cell that it has and for no other.
+    /// Appends a cell. The column must be able to hold it: a value of its physical type with at most 268,435,456
+    /// bytes, or null if it is OPTIONAL. An error leaves the column unchanged.
+    // Inlined together with `put_value`, so that a caller runs only the code for its own kind of cell.
     #[inline(always)]
     pub fn push(&mut self, cell: CellRef<'_>) -> Result<(), OutOfMemory>
         requires { columns.IsCellOf self.old.spec (cell_of cell) }
-        ensures pushed { OnOk result (self.new ≡ record self.old { cells = self.old.cells ++ cell_of cell.entry ∷ [] }) }
+        ensures pushed { OnOk result
+            (self.new ≡ record self.old { cells = self.old.cells ++ cell_of cell.entry ∷ [] }) }
         ensures unchanged { OnErr result (self.new ≡ self.old) }
     {
         put_mark(
@@ -98,7 +100,7 @@ impl TableColumn {
         Ok(())
     }
 
-    /// The cell of a row.
+    /// The cell of a row, borrowed without a copy.
     pub(crate) fn cell(&self, row: usize) -> CellRef<'_>
         requires { row < length self.now.cells }
         ensures cell { slice_get self.now.cells row ≡ Some (cell_of result) }
@@ -111,7 +113,7 @@ impl TableColumn {
         value_at(self.spec.kind, self.start_of(row), self.values.as_slice())
     }
 
-    /// Adds the page of some rows to the end of `into`, or leaves it as it is.
+    /// Appends the page body of rows `from` (included) to `to` (excluded) to `into`. An error leaves `into` unchanged.
     pub(crate) fn write_rows(
         &self,
         from: usize,
@@ -121,8 +123,10 @@ impl TableColumn {
         requires order { from ≤ to }
         requires inside { to ≤ length self.now.cells }
         requires few { to - from ≤ 16777216 }
-        ensures written { OnOk result (into.new ≡ into.old ++ columns.page_text self.now.spec (columns.rows_between from to self.now.cells)) }
-        ensures read_back { OnOk result (columns.IsPageOf self.now.spec (columns.rows_between from to self.now.cells) (drop (length into.old) into.new)) }
+        ensures written { OnOk result (into.new ≡ into.old ++ columns.page_text self.now.spec
+            (columns.rows_between from to self.now.cells)) }
+        ensures read_back { OnOk result (columns.IsPageOf self.now.spec
+            (columns.rows_between from to self.now.cells) (drop (length into.old) into.new)) }
         ensures unchanged { OnErr result (into.new ≡ into.old) }
     {
         let mut bytes = into.take();
@@ -135,13 +139,17 @@ impl TableColumn {
         written
     }
 
+    /// Appends the page body of a range of rows. An error may leave part of the page after the previous bytes.
     fn append_rows(&self, from: usize, to: usize, bytes: &mut Vec<u8>) -> Result<(), OutOfMemory>
         requires order { from ≤ to }
         requires inside { to ≤ length self.now.cells }
         requires few { to - from ≤ 16777216 }
-        ensures appended { OnOk result (bytes.new.items ≡ bytes.old.items ++ columns.page_text self.now.spec (columns.rows_between from to self.now.cells)) }
-        ensures kept { OnErr result (take (length bytes.old.items) bytes.new.items ≡ bytes.old.items) }
-        ensures page { columns.IsPageOf self.now.spec (columns.rows_between from to self.now.cells) (columns.page_text self.now.spec (columns.rows_between from to self.now.cells)) }
+        ensures appended { OnOk result (bytes.new.items ≡ bytes.old.items ++
+            columns.page_text self.now.spec (columns.rows_between from to self.now.cells)) }
+        ensures kept { OnErr result (take (length bytes.old.items) bytes.new.items ≡
+            bytes.old.items) }
+        ensures page { columns.IsPageOf self.now.spec (columns.rows_between from to self.now.cells)
+            (columns.page_text self.now.spec (columns.rows_between from to self.now.cells)) }
     {
         append_page(
             &self.spec,
@@ -151,11 +159,12 @@ impl TableColumn {
         )
     }
 
-    /// The levels of some rows of an OPTIONAL column; of any other, none.
+    /// The definition levels of a range of rows in an OPTIONAL column; empty for a REQUIRED column.
     fn levels_between(&self, from: usize, to: usize) -> &[u8]
         requires order { from ≤ to }
         requires inside { to ≤ length self.now.cells }
-        ensures levels { self.now.spec.optional ≡ true → result.now ≡ columns.levels_of (columns.rows_between from to self.now.cells) }
+        ensures levels { self.now.spec.optional ≡ true → result.now ≡
+            columns.levels_of (columns.rows_between from to self.now.cells) }
         ensures few { length result.now ≤ to - from }
     {
         let levels = self.levels.as_slice();
@@ -166,17 +175,19 @@ impl TableColumn {
         }
     }
 
+    /// The stored values of a range of rows.
     fn values_between(&self, from: usize, to: usize) -> &[u8]
         requires order { from ≤ to }
         requires inside { to ≤ length self.now.cells }
-        ensures { result.now ≡ columns.values_text self.now.spec.kind (columns.rows_between from to self.now.cells) }
+        ensures { result.now ≡ columns.values_text self.now.spec.kind
+            (columns.rows_between from to self.now.cells) }
     {
         let start = self.start_of(from);
         let end = self.start_of(to);
         part(self.values.as_slice(), start, end)
     }
 
-    /// Where the bytes of a row begin, or of the row behind the last.
+    /// The offset in `values` at which a row's value begins; for the row after the last, the end of `values`.
     fn start_of(&self, row: usize) -> usize
         requires { row ≤ length self.now.cells }
         ensures { result ≡ columns.start_of self.now.spec.kind self.now.cells row }
@@ -193,9 +204,10 @@ impl TableColumn {
     }
 }
 
-/// How many bytes a cell of this level takes, whose bytes begin at `start`.
+/// The number of bytes that a cell with this definition level takes from `start` on.
 fn size_at(kind: ColumnKind, level: u8, start: usize, values: &[u8]) -> usize
-    ensures { start + columns.size_kept kind level (drop start values.now) ≤ length values.now → result ≡ columns.size_kept kind level (drop start values.now) }
+    ensures { start + columns.size_kept kind level (drop start values.now) ≤ length values.now →
+        result ≡ columns.size_kept kind level (drop start values.now) }
 {
     if level == 0 {
         return 0;
@@ -206,9 +218,10 @@ fn size_at(kind: ColumnKind, level: u8, start: usize, values: &[u8]) -> usize
     }
 }
 
-/// How many bytes a byte array takes with its length.
+/// The number of bytes of the byte array at `start`, with its four-byte length.
 fn array_size(start: usize, values: &[u8]) -> usize
-    ensures { start + plain.value_size kind_of.ByteArray (drop start values.now) ≤ length values.now → result ≡ plain.value_size kind_of.ByteArray (drop start values.now) }
+    ensures { start + plain.value_size kind_of.ByteArray (drop start values.now) ≤
+        length values.now → result ≡ plain.value_size kind_of.ByteArray (drop start values.now) }
 {
     match rest_from(start, values).first_chunk::<4>() {
         Some(length) => 4 + u32::from_le_bytes(*length) as usize,
@@ -224,8 +237,8 @@ fn part(bytes: &[u8], start: usize, end: usize) -> &[u8]
     &bytes[start..end]
 }
 
-/// Marks the place of the next cell where a mark is due, and then sees to room for the levels up to the mark behind it,
-/// where levels are kept.
+/// Appends the next cell's offset to `marks` if its number is a multiple of 16. For an OPTIONAL column it then also
+/// reserves capacity for the levels of the next 16 cells.
 #[inline(always)]
 fn put_mark(
     optional: bool,
@@ -235,11 +248,11 @@ fn put_mark(
     marks: &mut Vec<usize>,
 ) -> Result<(), OutOfMemory>
     requires counted { optional ≡ true → length levels.old.items ≡ count }
-    requires room { optional ≡ true → 16 * length marks.old.items ≤ vec_capacity levels.old }
+    requires capacity { optional ≡ true → 16 * length marks.old.items ≤ vec_capacity levels.old }
     ensures marked { OnOk result (marks.new.items ≡ columns.marked count place marks.old.items) }
     ensures unchanged { OnErr result (marks.new.items ≡ marks.old.items) }
     ensures levels { levels.new.items ≡ levels.old.items }
-    ensures room { optional ≡ true → 16 * length marks.new.items ≤ vec_capacity levels.new }
+    ensures capacity { optional ≡ true → 16 * length marks.new.items ≤ vec_capacity levels.new }
 {
     if count / 16 == marks.len() {
         add_mark(optional, place, levels, marks)?;
@@ -247,7 +260,7 @@ fn put_mark(
     Ok(())
 }
 
-// Of sixteen cells one comes here: it stands apart, so that what adds the others stays short.
+// Called for one cell in sixteen, and not inlined so that `push` stays small.
 #[cold]
 #[inline(never)]
 fn add_mark(
@@ -256,12 +269,12 @@ fn add_mark(
     levels: &mut Vec<u8>,
     marks: &mut Vec<usize>,
 ) -> Result<(), OutOfMemory>
-    requires room { optional ≡ true → 16 * length marks.old.items ≤ vec_capacity levels.old }
+    requires capacity { optional ≡ true → 16 * length marks.old.items ≤ vec_capacity levels.old }
     requires due { optional ≡ true → 16 * length marks.old.items ≤ length levels.old.items }
     ensures marked { OnOk result (marks.new.items ≡ marks.old.items ++ place ∷ []) }
     ensures unchanged { OnErr result (marks.new.items ≡ marks.old.items) }
     ensures levels { levels.new.items ≡ levels.old.items }
-    ensures room { optional ≡ true → 16 * length marks.new.items ≤ vec_capacity levels.new }
+    ensures capacity { optional ≡ true → 16 * length marks.new.items ≤ vec_capacity levels.new }
 {
     if optional {
         make_room(16, levels)?;
@@ -271,13 +284,14 @@ fn add_mark(
     Ok(())
 }
 
-/// Adds the level of a cell behind so many.
+/// Appends the definition level of cell number `count`, if the column is OPTIONAL.
 #[inline(always)]
 fn put_level(optional: bool, count: usize, level: u8, levels: &mut Vec<u8>)
     requires counted { optional ≡ true → length levels.old.items ≡ count }
-    requires room { optional ≡ true → vec_len levels.old < vec_capacity levels.old }
+    requires capacity { optional ≡ true → vec_len levels.old < vec_capacity levels.old }
     requires required { optional ≡ false → level ≡ 1 }
-    ensures levels { columns.levels_in optional (count + 1) levels.new.items ≡ columns.levels_in optional count levels.old.items ++ level ∷ [] }
+    ensures levels { columns.levels_in optional (count + 1) levels.new.items ≡
+        columns.levels_in optional count levels.old.items ++ level ∷ [] }
     ensures capacity { vec_capacity levels.new ≡ vec_capacity levels.old }
 {
     if optional {
@@ -285,7 +299,7 @@ fn put_level(optional: bool, count: usize, level: u8, levels: &mut Vec<u8>)
     }
 }
 
-/// The level of a row, of so many cells.
+/// The definition level of a row of a column with `count` cells.
 fn level_at(optional: bool, count: usize, levels: &Vec<u8>, row: usize) -> u8
     requires counted { optional ≡ true → length levels.now.items ≡ count }
     requires inside { row < count }
@@ -294,7 +308,7 @@ fn level_at(optional: bool, count: usize, levels: &Vec<u8>, row: usize) -> u8
     if optional { levels[row] } else { 1 }
 }
 
-/// 0 for a null and 1 for a value.
+/// The definition level of a cell: 0 for a null and 1 for a value.
 fn level_of(cell: CellRef<'_>) -> u8
     ensures { result ≡ columns.level_of (cell_of cell.entry) }
 {
@@ -304,7 +318,7 @@ fn level_of(cell: CellRef<'_>) -> u8
     }
 }
 
-/// The value whose bytes begin at `start`.
+/// The stored value that begins at offset `start`.
 fn value_at<'a>(kind: ColumnKind, start: usize, values: &'a [u8]) -> CellRef<'a>
     ensures { cell_of result ≡ columns.value_kept kind start values.now }
 {
@@ -314,6 +328,7 @@ fn value_at<'a>(kind: ColumnKind, start: usize, values: &'a [u8]) -> CellRef<'a>
     }
 }
 
+/// The byte at offset `start`, or 0 past the end.
 fn byte_at(start: usize, values: &[u8]) -> u8
     ensures { result ≡ slice_index (drop start values.now) 0 }
 {
@@ -324,11 +339,12 @@ fn byte_at(start: usize, values: &[u8]) -> u8
     }
 }
 
-/// Adds the bytes of a value to the end of `values`, or leaves them as they are.
+/// Appends the stored bytes of a cell to `values`. An error leaves `values` unchanged.
 #[inline(always)]
 fn put_value(spec: &ColumnSpec, cell: CellRef<'_>, values: &mut Vec<u8>) -> Result<(), OutOfMemory>
     requires { columns.IsCellOf spec.now (cell_of cell) }
-    ensures put { OnOk result (values.new.items ≡ values.old.items ++ columns.text_of spec.now.kind (cell_of cell.entry)) }
+    ensures put { OnOk result (values.new.items ≡ values.old.items ++
+        columns.text_of spec.now.kind (cell_of cell.entry)) }
     ensures unchanged { OnErr result (values.new.items ≡ values.old.items) }
 {
     match cell {
@@ -340,11 +356,12 @@ fn put_value(spec: &ColumnSpec, cell: CellRef<'_>, values: &mut Vec<u8>) -> Resu
     }
 }
 
-/// Adds bytes, behind their length where they are a byte array's.
+/// Appends a value's bytes, preceded by their length for a byte array.
 #[inline(always)]
 fn put_raw(kind: ColumnKind, bytes: &[u8], values: &mut Vec<u8>) -> Result<(), OutOfMemory>
     requires { columns.IsValueOf kind (bytes_cell bytes.now) }
-    ensures put { OnOk result (values.new.items ≡ values.old.items ++ columns.text_of kind (bytes_cell bytes.now)) }
+    ensures put { OnOk result (values.new.items ≡ values.old.items ++
+        columns.text_of kind (bytes_cell bytes.now)) }
     ensures unchanged { OnErr result (values.new.items ≡ values.old.items) }
 {
     match kind {
@@ -353,10 +370,12 @@ fn put_raw(kind: ColumnKind, bytes: &[u8], values: &mut Vec<u8>) -> Result<(), O
     }
 }
 
+/// Appends a byte array: its length in four bytes, then its bytes.
 #[inline(always)]
 fn put_array(bytes: &[u8], values: &mut Vec<u8>) -> Result<(), OutOfMemory>
     requires { length bytes.now ≤ 268435456 }
-    ensures put { OnOk result (values.new.items ≡ values.old.items ++ (to_le_bytes w32 (length bytes.now) ++ bytes.now)) }
+    ensures put { OnOk result (values.new.items ≡ values.old.items ++
+        (to_le_bytes w32 (length bytes.now) ++ bytes.now)) }
     ensures unchanged { OnErr result (values.new.items ≡ values.old.items) }
 {
     make_room(4 + bytes.len(), values)?;
@@ -364,7 +383,7 @@ fn put_array(bytes: &[u8], values: &mut Vec<u8>) -> Result<(), OutOfMemory>
     put_within(bytes, values)
 }
 
-/// Adds bytes to the end, or leaves `values` as they are.
+/// Appends bytes to `values`. An error leaves `values` unchanged.
 #[inline(always)]
 pub fn put_bytes(bytes: &[u8], values: &mut Vec<u8>) -> Result<(), OutOfMemory>
     ensures put { OnOk result (values.new.items ≡ values.old.items ++ bytes.now) }
@@ -375,7 +394,8 @@ pub fn put_bytes(bytes: &[u8], values: &mut Vec<u8>) -> Result<(), OutOfMemory>
     Ok(())
 }
 
-/// Adds bytes for which there is room. Few are added one by one: most texts are short, and a call takes longer.
+/// Appends bytes for which `values` has the capacity. Fewer than eight are pushed one by one, which is faster than a
+/// call for the short texts that most tables hold.
 #[inline(always)]
 fn put_within(bytes: &[u8], values: &mut Vec<u8>) -> Result<(), OutOfMemory>
     requires { vec_len values.old + length bytes.now ≤ vec_capacity values.old }
@@ -392,10 +412,10 @@ fn put_within(bytes: &[u8], values: &mut Vec<u8>) -> Result<(), OutOfMemory>
     Ok(())
 }
 
-/// Sees to room for so many more.
+/// Makes sure that `items` has the capacity for `more` further items.
 #[inline(always)]
 fn make_room<T>(more: usize, items: &mut Vec<T>) -> Result<(), OutOfMemory>
-    ensures room { OnOk result (vec_len items.new + more ≤ vec_capacity items.new) }
+    ensures capacity { OnOk result (vec_len items.new + more ≤ vec_capacity items.new) }
     ensures unchanged { items.new.items ≡ items.old.items }
 {
     if items.capacity() - items.len() < more {
@@ -404,12 +424,12 @@ fn make_room<T>(more: usize, items: &mut Vec<T>) -> Result<(), OutOfMemory>
     Ok(())
 }
 
-// Stands apart as `add_mark` does. Room grows by a quarter: of many short columns, each would else keep up to twice what
-// it holds.
+// Not inlined, like `add_mark`. The capacity grows by a quarter: with doubling, each of many short columns could hold up
+// to twice the memory that it needs.
 #[cold]
 #[inline(never)]
 fn grow<T>(more: usize, items: &mut Vec<T>) -> Result<(), OutOfMemory>
-    ensures room { OnOk result (vec_len items.new + more ≤ vec_capacity items.new) }
+    ensures capacity { OnOk result (vec_len items.new + more ≤ vec_capacity items.new) }
     ensures unchanged { items.new.items ≡ items.old.items }
 {
     items.reserve_exact(more.max(items.len() / 4))?;

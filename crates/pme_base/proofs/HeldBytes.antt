@@ -1,4 +1,4 @@
--- Lists of bytes: their parts and what is put together of them, and files that hold bytes.
+-- Lemmas: parts and concatenations of byte lists are byte lists, and files hold byte lists.
 use Rattle.std.proofs.Common.{◌≡◌, ℕ, zero, suc, ◌<◌, Bool, true, false, cond, List, [], ◌∷◌, ◌++◌, slice_index, Option, Some, None, if◌then◌else◌, arith}
 use Rattle.std.specs.FinMap.{get, insert, from_entries, get-insert, get-from_entries}
 use Rattle.std.specs.Cmp.Lexicographic.{nat_list_cmp_total}
@@ -37,7 +37,7 @@ one_more_holds : (files : Published) (name new : List ℕ) → HoldBytes files �
 one_more_holds files name new held are = λ q bytes is.
     chosen _ (get files q) new bytes are (held q bytes) (rw (get-insert nat_list_cmp_total files name new q) at is)
 
--- the files of a log with one more entry, or without it
+-- the files of a log to which an entry was added or not
 pub entry_holds : (added : Bool) (entries : List (List ℕ × List ℕ)) (name new : List ℕ) → HoldBytes (from_entries entries) → AreBytes new
     → HoldBytes (from_entries (if added then (name, new) ∷ entries else entries))
 entry_holds true entries name new held are = one_more_holds (from_entries entries) name new held are

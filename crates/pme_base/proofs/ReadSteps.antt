@@ -1,11 +1,11 @@
--- Reading a file piece by piece: what is at the front of the buffer after each piece.
+-- Reading a file piece by piece: the front of the buffer after each piece.
 use Rattle.std.proofs.Common.{◌≡◌, ℕ, ◌+◌, ◌-◌, ◌≤◌, List, ◌++◌, take, drop, length, Option, None, Some, IfSome, sym, ap, ◌∙◌, arith}
 use Rattle.std.proofs.Math.Seq.{take-add, take-append-add}
 use Rattle.std.proofs.lemmas.List.{take-append-le, length-take-le, drop-drop}
 use borrow.Rule.Slice.PartMut.{put_mid, post_of}
 use Rattle.pme_base.specs.Outside.{Published, bytes_of, IsReadAt}
 
--- so many bytes of the file from a place on are at the front of the buffer
+-- the first `count` bytes of the buffer are the file's bytes from offset `at` on
 pub record IsReadSoFar (bytes : List ℕ) (at done : ℕ) (into : List ℕ) : Type 0 where
   pub front : take done into ≡ take done (drop at bytes)
   pub within : done ≤ length bytes - at
@@ -13,7 +13,7 @@ pub record IsReadSoFar (bytes : List ℕ) (at done : ℕ) (into : List ℕ) : Ty
 taken : (n count : ℕ) (xs ys zs : List ℕ) → length xs ≡ n → count ≤ length ys → take (n + count) (xs ++ (ys ++ zs)) ≡ xs ++ take count ys
 taken n count xs ys zs e h = rw (← e) (take-append-add xs (ys ++ zs) count ∙ ap (λ r. xs ++ r) (take-append-le count ys zs h))
 
--- a piece is read behind what was read
+-- a piece is read after the bytes already read
 more : (bytes : List ℕ) (at done place count : ℕ) (into piece : List ℕ) → done ≤ length into → count ≤ length piece → place ≡ at + done
     → IsReadSoFar bytes at done into → IsReadAt bytes place count piece
     → IsReadSoFar bytes at (done + count) (put_mid done (length into - done) into piece)

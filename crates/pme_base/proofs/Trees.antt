@@ -1,4 +1,4 @@
--- A tree's keys, each of which stands for a list of bytes, as the set of these lists.
+-- The keys of a tree, each a list of bytes, as a set.
 use Rattle.std.proofs.Common.{◌≡◌, ℕ, Bool, true, false, ◌||◌, List, [], ◌∷◌, map, refl, sym, ap, ◌∙◌}
 use Rattle.std.specs.declared.cmp.Ordering.{Ordering}
 use Rattle.std.specs.declared.cmp.Ordering.TheVariants.{Less, Equal, Greater}

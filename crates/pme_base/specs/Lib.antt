@@ -8,3 +8,4 @@ pub mod Drafts
 pub mod Lending
 pub mod Lists
 pub mod Reading
+pub mod Causes

@@ -1,4 +1,4 @@
--- What the objects in memory hold, and which of their calls are set to fail.
+-- The contents of the objects in memory, and which of their calls are set to fail.
 use Rattle.std.specs.Prelude.{ℕ, ◌+◌, ◌-◌, ◌^◌, ◌==◌, min, Bool, cond, List, [], drop}
 use Rattle.std.specs.List.{list_any}
 use Rattle.std.specs.FinMap.{from_entries}
@@ -8,7 +8,7 @@ use Rattle.pme_base.specs.declared.mem_random.MemRandom.{MemRandom}
 use Rattle.pme_base.specs.declared.mem_sink.MemSink.{MemSink}
 use Rattle.pme_base.specs.Outside.{Published}
 
--- a count raised by one, which stays at the last value of 64 bits
+-- a count raised by one, up to 2^64 - 1
 abbrev pub one_more : ℕ → ℕ
 one_more count = min (count + 1) (2 ^ 64 - 1)
 
@@ -20,11 +20,11 @@ no_calls = record { made = 0; failing = []; faults = 0 }
 abbrev pub is_failing : Calls → Bool
 is_failing calls = list_any (λ call. call == calls.made) calls.failing
 
--- the calls after one more, which failed or not
+-- the calls after one more call, which failed or succeeded
 abbrev pub called : Bool → Calls → Calls
 called failed calls = record calls { made = one_more calls.made; faults = cond failed (one_more calls.faults) calls.faults }
 
--- what files in memory hold
+-- the contents of files in memory
 pub record Memory : Type 0 where
   pub published : Published
   pub pending : List ℕ
@@ -42,7 +42,7 @@ mem_published m = (memory m).published
 abbrev pub mem_pending : MemFiles → List ℕ
 mem_pending m = (memory m).pending
 
--- the bytes that a source in memory has still to give
+-- the bytes that a source in memory will give
 abbrev pub mem_to_come : MemRandom → List ℕ
 mem_to_come m = drop m.next m.bytes
 

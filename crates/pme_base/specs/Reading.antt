@@ -23,7 +23,3 @@ is_reading_cause cause_of.NoFile = true
 is_reading_cause cause_of.ReadFault = true
 is_reading_cause cause_of.OutOfMemory = true
 is_reading_cause _ = false
-
-abbrev pub is_reading_result : {T : Type 0} → Result T Refusal → Bool
-is_reading_result (Ok _) = true
-is_reading_result (Err refusal) = is_reading_cause refusal.cause

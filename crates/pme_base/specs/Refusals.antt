@@ -1,4 +1,4 @@
--- Refusals as values that definitions build and compare, and which causes come from outside.
+-- Building refusals in definitions; and the causes that come from outside.
 use Rattle.std.specs.Prelude.{ℕ, Bool, true, false}
 use Rattle.pme_base.specs.declared.place.Place.{Place}
 use Rattle.pme_base.specs.declared.place.PlaceKind.TheVariants as kind_of
@@ -12,15 +12,15 @@ use Rattle.pme_base.specs.Places.{place_of}
 abbrev pub refusal_at : Cause → Place → ℕ → Detail → Refusal
 refusal_at cause place at detail = record { cause = cause; place = place; at = at; detail = detail }
 
--- a refusal that tells two numbers
+-- a refusal with two numbers
 abbrev pub pair_refusal : Cause → Place → ℕ → ℕ → ℕ → Refusal
 pair_refusal cause place at first second = refusal_at cause place at (Pair first second)
 
--- a refusal with no place that tells nothing
+-- a refusal without a place, an offset or values
 abbrev pub plain_refusal : Cause → Refusal
 plain_refusal cause = refusal_at cause (place_of kind_of.File 0 0 0) 0 Nothing
 
--- a cause that tells of a fault outside: a read, a write, a draw or a key service that failed
+-- a fault outside: a read, a write, a draw of random bytes or a call of a key service failed
 abbrev pub is_fault : Cause → Bool
 is_fault ReadFault = true
 is_fault WriteFault = true
@@ -28,7 +28,7 @@ is_fault RandomFault = true
 is_fault ServiceFault = true
 is_fault _ = false
 
--- a cause that may end a call at any step, whatever its inputs: a fault outside, or want of memory
+-- a cause that may end a call at any step, whatever its inputs: a fault outside, or a failed allocation
 abbrev pub is_free : Cause → Bool
 is_free OutOfMemory = true
 is_free ReadFault = true

@@ -1,3 +1,4 @@
+// Bytes that own their memory.
 ghost use Rattle.std.specs.Prelude.{◌≡◌, [], ◌∷◌, ◌++◌, ◌==◌, length, take, OnOk, OnErr, IfOk};
 ghost use Rattle.std.specs.Borrow.{sem};
 

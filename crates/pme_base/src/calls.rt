@@ -1,3 +1,4 @@
+// Counting the calls of an object in memory, and failing some of them.
 ghost use Rattle.std.specs.Prelude.{◌≡◌, ◌≤◌, [], ◌∷◌, ◌++◌, true, is_err, OnOk, OnErr};
 ghost use Rattle.pme_base.specs.Memory.{no_calls, is_failing, called, one_more};
 ghost use Rattle.pme_base.specs.Counts.{Rose};
@@ -29,7 +30,8 @@ impl Calls {
 
     /// Sets call number `call` to fail. Calls are counted from 0.
     pub fn fail(&mut self, call: u64) -> Result<(), OutOfMemory>
-        ensures ok { OnOk result (self.new ≡ record self.old { failing = self.old.failing ++ call ∷ [] }) }
+        ensures ok { OnOk result (self.new
+            ≡ record self.old { failing = self.old.failing ++ call ∷ [] }) }
         ensures unchanged { OnErr result (self.new ≡ self.old) }
     {
         self.failing.push(call)

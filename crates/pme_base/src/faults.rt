@@ -1,3 +1,4 @@
+// Counting the failed calls of an object of the system.
 ghost use Rattle.std.specs.Prelude.{◌≡◌, ◌≤◌, OnErr};
 ghost use Rattle.std.specs.Result.{result_ok};
 ghost use Rattle.pme_base.specs.Counts.{Rose};

@@ -5,6 +5,7 @@
 mod bytes;
 mod calls;
 mod faults;
+mod limits;
 mod mem_files;
 mod mem_random;
 mod mem_sink;
@@ -23,6 +24,10 @@ mod text;
 mod words;
 
 pub use bytes::Bytes;
+pub use limits::{
+    COLUMN_LIMIT, FOOTER_AREA_LIMIT, FOOTER_LIMIT, MODULE_LIMIT, ORDINAL_LIMIT, PREFIX_LIMIT,
+    SMALL_FILE_LIMIT, UNIQUE_LIMIT,
+};
 pub use mem_files::MemFiles;
 pub use mem_random::MemRandom;
 pub use mem_sink::MemSink;

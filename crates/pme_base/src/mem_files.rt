@@ -1,3 +1,4 @@
+// Files in memory.
 ghost use Rattle.std.specs.Prelude.{◌≡◌, ◌+◌, ◌-◌, ◌≤◌, ◌↔◌, ◌∷◌, ◌++◌, [], min, max, true, length, Some, option_map, option_copied, if◌then◌else◌, is_ok, OnOk, OnErr, IfOk, IfSome, IsErrOf, IsOkUnless};
 ghost use Rattle.std.specs.FinMap.{empty, get, insert, find, from_entries};
 ghost use Rattle.std.specs.Cmp.Lexicographic.{slice_cmp};
@@ -33,7 +34,14 @@ impl MemFiles {
 
     /// Returns no files and no pending bytes.
     pub fn new(alloc: Global) -> MemFiles
-        ensures { memory result ≡ record { published = empty; pending = []; given = 0; largest_read = 0; largest_append = 0; calls = no_calls } }
+        ensures { memory result ≡ record {
+          published = empty;
+          pending = [];
+          given = 0;
+          largest_read = 0;
+          largest_append = 0;
+          calls = no_calls;
+        } }
     {
         MemFiles {
             alloc,
@@ -48,7 +56,8 @@ impl MemFiles {
 
     /// Makes `bytes` the file `name`, replacing an older file of that name. It isn't counted as a call of the trait.
     pub fn store(&mut self, name: &str, bytes: &[u8]) -> Result<(), OutOfMemory>
-        ensures ok { OnOk result (memory self.new ≡ record (memory self.old) { published = insert (mem_published self.old) name.now bytes.now }) }
+        ensures ok { OnOk result (memory self.new ≡ record (memory self.old)
+            { published = insert (mem_published self.old) name.now bytes.now }) }
         ensures unchanged { OnErr result (memory self.new ≡ memory self.old) }
     {
         let name = Bytes::copy_of(self.alloc, name.as_bytes())?;
@@ -80,7 +89,13 @@ impl MemFiles {
 
     /// Sets trait call number `call` to fail. Trait calls are counted from 0.
     pub fn fail(&mut self, call: u64) -> Result<(), OutOfMemory>
-        ensures ok { let calls = (memory self.old).calls in OnOk result (memory self.new ≡ record (memory self.old) { calls = record calls { failing = calls.failing ++ call ∷ [] } }) }
+        ensures ok { let calls = (memory self.old).calls in OnOk result (memory self.new
+            ≡ record (memory self.old) {
+              calls = record calls {
+                failing = calls.failing ++ call
+                    ∷ [];
+              };
+            }) }
         ensures unchanged { OnErr result (memory self.new ≡ memory self.old) }
     {
         self.calls.fail(call)
@@ -115,14 +130,17 @@ impl Files for MemFiles {
     ghost pending_bytes = { λ m. m.pending_are_bytes };
 
     fn size(&mut self, name: &str) -> Result<Option<u64>, Trouble>
-        ensures answered { IfOk result (λ size. size ≡ option_map length (get (mem_published self.old) name.now)) }
+        ensures answered { IfOk result (λ size. size
+            ≡ option_map length (get (mem_published self.old) name.now)) }
         ensures published { Some (mem_published self.new) ≡ Some (mem_published self.old) }
         ensures pending { OnOk result (Some (mem_pending self.new) ≡ Some (mem_pending self.old)) }
         ensures given { (memory self.new).given ≡ (memory self.old).given }
-        ensures cause { HasCause (memory self.old).calls.faults (memory self.new).calls.faults result }
+        ensures cause { HasCause (memory self.old).calls.faults
+            (memory self.new).calls.faults result }
         ensures fails { IsErrOf result Trouble.Failed ↔ (is_failing (memory self.old).calls ≡ true) }
         ensures only { IsOkUnless result Trouble.Failed }
-        ensures memory { let calls = (memory self.old).calls in memory self.new ≡ record (memory self.old) { calls = called (is_failing calls) calls } }
+        ensures memory { let calls = (memory self.old).calls in memory self.new
+            ≡ record (memory self.old) { calls = called (is_failing calls) calls } }
     {
         self.calls.begin()?;
         match self.held(name) {
@@ -133,15 +151,19 @@ impl Files for MemFiles {
 
     fn read_at(&mut self, name: &str, at: u64, into: &mut [u8]) -> Result<usize, Trouble>
         ensures within { IfOk result (λ count. count ≤ length into.new) }
-        ensures answered { IfOk result (λ count. IsReadAt (bytes_of (mem_published self.old) name.now) at count into.new) }
+        ensures answered { IfOk result (λ count.
+            IsReadAt (bytes_of (mem_published self.old) name.now) at count into.new) }
         ensures published { Some (mem_published self.new) ≡ Some (mem_published self.old) }
         ensures pending { OnOk result (Some (mem_pending self.new) ≡ Some (mem_pending self.old)) }
         ensures given { (memory self.new).given ≡ given_after (memory self.old).given result }
-        ensures cause { HasCause (memory self.old).calls.faults (memory self.new).calls.faults result }
+        ensures cause { HasCause (memory self.old).calls.faults
+            (memory self.new).calls.faults result }
         ensures fails { IsErrOf result Trouble.Failed ↔ (is_failing (memory self.old).calls ≡ true) }
         ensures only { IsOkUnless result Trouble.Failed }
-        ensures most { IfOk result (λ count. count ≡ min (length into.new) (length (bytes_of (mem_published self.old) name.now) - at)) }
-        ensures memory { let calls = (memory self.old).calls in memory self.new ≡ record (memory self.old) { given = given_after (memory self.old).given result; largest_read = max (memory self.old).largest_read (length into.new); calls = called (is_failing calls) calls } }
+        ensures most { IfOk result (λ count. count
+            ≡ min (length into.new) (length (bytes_of (mem_published self.old) name.now) - at)) }
+        ensures memory { let calls = (memory self.old).calls in memory self.new
+            ≡ record (memory self.old) { given = given_after (memory self.old).given result; largest_read = max (memory self.old).largest_read (length into.new); calls = called (is_failing calls) calls } }
     {
         self.largest_read = self.largest_read.max(into.len() as u64);
         self.calls.begin()?;
@@ -154,13 +176,16 @@ impl Files for MemFiles {
     }
 
     fn begin(&mut self) -> Result<(), Trouble>
-        ensures pending { OnOk result (Some (mem_pending self.new) ≡ nothing_pending (Some (mem_published self.old))) }
+        ensures pending { OnOk result (Some (mem_pending self.new)
+            ≡ nothing_pending (Some (mem_published self.old))) }
         ensures published { Some (mem_published self.new) ≡ Some (mem_published self.old) }
         ensures given { (memory self.new).given ≡ (memory self.old).given }
-        ensures cause { HasCause (memory self.old).calls.faults (memory self.new).calls.faults result }
+        ensures cause { HasCause (memory self.old).calls.faults
+            (memory self.new).calls.faults result }
         ensures fails { IsErrOf result Trouble.Failed ↔ (is_failing (memory self.old).calls ≡ true) }
         ensures only { IsOkUnless result Trouble.Failed }
-        ensures memory { let calls = (memory self.old).calls in memory self.new ≡ record (memory self.old) { pending = (if is_ok result then [] else mem_pending self.old); calls = called (is_failing calls) calls } }
+        ensures memory { let calls = (memory self.old).calls in memory self.new
+            ≡ record (memory self.old) { pending = (if is_ok result then [] else mem_pending self.old); calls = called (is_failing calls) calls } }
     {
         self.calls.begin()?;
         self.pending = Bytes::new(self.alloc);
@@ -168,12 +193,20 @@ impl Files for MemFiles {
     }
 
     fn append(&mut self, bytes: &[u8]) -> Result<(), Trouble>
-        ensures pending { OnOk result (Some (mem_pending self.new) ≡ followed_by bytes.now (Some (mem_pending self.old))) }
+        ensures pending { OnOk result (Some (mem_pending self.new)
+            ≡ followed_by bytes.now (Some (mem_pending self.old))) }
         ensures published { Some (mem_published self.new) ≡ Some (mem_published self.old) }
         ensures given { (memory self.new).given ≡ (memory self.old).given }
-        ensures cause { HasCause (memory self.old).calls.faults (memory self.new).calls.faults result }
+        ensures cause { HasCause (memory self.old).calls.faults
+            (memory self.new).calls.faults result }
         ensures fails { IsErrOf result Trouble.Failed ↔ (is_failing (memory self.old).calls ≡ true) }
-        ensures memory { let calls = (memory self.old).calls in memory self.new ≡ record (memory self.old) { pending = mem_pending self.old ++ (if is_ok result then bytes.now else []); largest_append = max (memory self.old).largest_append (length bytes.now); calls = called (is_failing calls) calls } }
+        ensures memory { let calls = (memory self.old).calls in memory self.new
+            ≡ record (memory self.old) {
+              pending = mem_pending self.old
+                  ++ (if is_ok result then bytes.now else []);
+              largest_append = max (memory self.old).largest_append (length bytes.now);
+              calls = called (is_failing calls) calls;
+            } }
     {
         self.largest_append = self.largest_append.max(bytes.len() as u64);
         self.calls.begin()?;
@@ -182,14 +215,20 @@ impl Files for MemFiles {
     }
 
     fn publish(&mut self, name: &str) -> Result<(), Trouble>
-        ensures file { OnOk result (Some (mem_published self.new) ≡ with_file (Some (mem_published self.old)) name.now (Some (mem_pending self.old))) }
-        ensures pending { OnOk result (Some (mem_pending self.new) ≡ nothing_pending (Some (mem_published self.old))) }
-        ensures unchanged { OnErr result (Some (mem_published self.new) ≡ Some (mem_published self.old)) }
+        ensures file { OnOk result (Some (mem_published self.new)
+            ≡ with_file (Some (mem_published self.old)) name.now (Some (mem_pending self.old))) }
+        ensures pending { OnOk result (Some (mem_pending self.new)
+            ≡ nothing_pending (Some (mem_published self.old))) }
+        ensures unchanged { OnErr result (Some (mem_published self.new)
+            ≡ Some (mem_published self.old)) }
         ensures given { (memory self.new).given ≡ (memory self.old).given }
-        ensures cause { HasCause (memory self.old).calls.faults (memory self.new).calls.faults result }
+        ensures cause { HasCause (memory self.old).calls.faults
+            (memory self.new).calls.faults result }
         ensures fails { IsErrOf result Trouble.Failed ↔ (is_failing (memory self.old).calls ≡ true) }
-        ensures memory { let calls = (memory self.old).calls in OnOk result (memory self.new ≡ record (memory self.old) { published = insert (mem_published self.old) name.now (mem_pending self.old); pending = []; calls = called (is_failing calls) calls }) }
-        ensures refused { let calls = (memory self.old).calls in OnErr result (memory self.new ≡ record (memory self.old) { pending = mem_pending self.new; calls = called (is_failing calls) calls }) }
+        ensures memory { let calls = (memory self.old).calls in OnOk result (memory self.new
+            ≡ record (memory self.old) { published = insert (mem_published self.old) name.now (mem_pending self.old); pending = []; calls = called (is_failing calls) calls }) }
+        ensures refused { let calls = (memory self.old).calls in OnErr result (memory self.new
+            ≡ record (memory self.old) { pending = mem_pending self.new; calls = called (is_failing calls) calls }) }
     {
         self.calls.begin()?;
         let name = Bytes::copy_of(self.alloc, name.as_bytes())?;

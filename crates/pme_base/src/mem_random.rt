@@ -1,3 +1,4 @@
+// A source of random bytes in memory.
 ghost use Rattle.std.specs.Prelude.{◌≡◌, ◌<◌, ◌≤◌, ◌↔◌, ◌⊎◌, ◌∷◌, ◌++◌, [], true, length, drop, Some, option_map, is_err, OnOk, OnErr, IfSome, IsErr};
 ghost use Rattle.pme_base.specs.Outside.{AreBytes, IsDrawn};
 ghost use Rattle.pme_base.specs.Counts.{Rose};
@@ -36,7 +37,8 @@ impl MemRandom {
 
     /// Sets call number `call` of `fill` to fail. Calls are counted from 0.
     pub fn fail(&mut self, call: u64) -> Result<(), OutOfMemory>
-        ensures ok { OnOk result (self.new.calls ≡ record self.old.calls { failing = self.old.calls.failing ++ call ∷ [] }) }
+        ensures ok { OnOk result (self.new.calls
+            ≡ record self.old.calls { failing = self.old.calls.failing ++ call ∷ [] }) }
         ensures unchanged { OnErr result (self.new.calls ≡ self.old.calls) }
         ensures to_come { mem_to_come self.new ≡ mem_to_come self.old }
     {
@@ -57,10 +59,12 @@ impl Random for MemRandom {
 
     fn fill(&mut self, into: &mut [u8]) -> Result<(), Failed>
         ensures answered { OnOk result (IsDrawn (mem_to_come self.old) into.new) }
-        ensures rest { OnOk result (Some (mem_to_come self.new) ≡ option_map (drop (length into.new)) (Some (mem_to_come self.old))) }
+        ensures rest { OnOk result (Some (mem_to_come self.new)
+            ≡ option_map (drop (length into.new)) (Some (mem_to_come self.old))) }
         ensures later { self.old.calls.faults ≤ self.new.calls.faults }
         ensures failed { OnErr result (Rose self.old.calls.faults self.new.calls.faults) }
-        ensures fails { IsErr result ↔ ((is_failing self.old.calls ≡ true) ⊎ (length (mem_to_come self.old) < length into.new)) }
+        ensures fails { IsErr result ↔ ((is_failing self.old.calls ≡ true)
+            ⊎ (length (mem_to_come self.old) < length into.new)) }
         ensures unchanged { OnErr result (mem_to_come self.new ≡ mem_to_come self.old) }
         ensures calls { self.new.calls ≡ called (is_err result) self.old.calls }
     {

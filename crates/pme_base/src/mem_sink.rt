@@ -1,3 +1,4 @@
+// A sink in memory.
 ghost use Rattle.std.specs.Prelude.{◌≡◌, ◌↔◌, ◌∷◌, ◌++◌, [], true, Some, OnOk, OnErr, IsErrOf, if◌then◌else◌, is_ok};
 ghost use Rattle.pme_base.specs.Outside.{followed_by, PutsFront, HasCause};
 ghost use Rattle.pme_base.specs.Memory.{mem_written, no_calls, is_failing, called};
@@ -36,7 +37,8 @@ impl MemSink {
 
     /// Sets call number `call` of `put` to fail. Calls are counted from 0.
     pub fn fail(&mut self, call: u64) -> Result<(), OutOfMemory>
-        ensures ok { OnOk result (self.new.calls ≡ record self.old.calls { failing = self.old.calls.failing ++ call ∷ [] }) }
+        ensures ok { OnOk result (self.new.calls
+            ≡ record self.old.calls { failing = self.old.calls.failing ++ call ∷ [] }) }
         ensures unchanged { OnErr result (self.new.calls ≡ self.old.calls) }
         ensures written { mem_written self.new ≡ mem_written self.old }
     {
@@ -50,8 +52,10 @@ impl Sink for MemSink {
     ghost faults = { λ m. m.calls.faults };
 
     fn put(&mut self, bytes: &[u8]) -> Result<(), Trouble>
-        ensures all { OnOk result (Some (mem_written self.new) ≡ followed_by bytes.now (Some (mem_written self.old))) }
-        ensures part { OnErr result (PutsFront bytes.now (Some (mem_written self.old)) (Some (mem_written self.new))) }
+        ensures all { OnOk result (Some (mem_written self.new)
+            ≡ followed_by bytes.now (Some (mem_written self.old))) }
+        ensures part { OnErr result (PutsFront bytes.now (Some (mem_written self.old))
+            (Some (mem_written self.new))) }
         ensures cause { HasCause self.old.calls.faults self.new.calls.faults result }
         ensures fails { IsErrOf result Trouble.Failed ↔ (is_failing self.old.calls ≡ true) }
         ensures unchanged { OnErr result (mem_written self.new ≡ mem_written self.old) }

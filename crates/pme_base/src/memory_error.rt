@@ -1,3 +1,4 @@
+// The error of a failed allocation.
 use std::alloc::{AllocError, AllocFailed};
 use thiserror::Error;
 

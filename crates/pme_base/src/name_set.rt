@@ -1,3 +1,4 @@
+// A set of names.
 ghost use Rattle.std.specs.Prelude.{◌≡◌, not, IfOk, OnOk};
 ghost use Rattle.std.specs.FinSet as set;
 

@@ -1,3 +1,4 @@
+// The traits of the objects outside: files, random bytes and output streams.
 ghost use Rattle.std.specs.Prelude.{◌≡◌, ℕ, ◌≤◌, List, length, drop, Option, option_map, OnOk, OnErr, IfOk, IfSome};
 ghost use Rattle.std.specs.FinMap.{get};
 ghost use Rattle.pme_base.specs.Outside.{Published, AreBytes, HoldBytes, bytes_of, nothing_pending, followed_by, with_file, given_after, IsReadAt, IsDrawn, PutsFront, HasCause};
@@ -80,7 +81,8 @@ pub trait Files {
 
     /// The length of the file `name` in bytes; None where no such file is published.
     fn size(&mut self, name: &str) -> Result<Option<u64>, Trouble>
-        ensures answered { IfOk result (λ size. IfSome (published self.old) (λ files. size ≡ option_map length (get files name.now))) }
+        ensures answered { IfOk result (λ size. IfSome (published self.old)
+            (λ files. size ≡ option_map length (get files name.now))) }
         ensures published { published self.new ≡ published self.old }
         ensures pending { OnOk result (pending self.new ≡ pending self.old) }
         ensures given { given self.new ≡ given self.old }
@@ -90,7 +92,8 @@ pub trait Files {
     /// unless `into` is empty or the file ends at `at` or before, or doesn't exist.
     fn read_at(&mut self, name: &str, at: u64, into: &mut [u8]) -> Result<usize, Trouble>
         ensures within { IfOk result (λ count. count ≤ length into.new) }
-        ensures answered { IfOk result (λ count. IfSome (published self.old) (λ files. IsReadAt (bytes_of files name.now) at count into.new)) }
+        ensures answered { IfOk result (λ count. IfSome (published self.old)
+            (λ files. IsReadAt (bytes_of files name.now) at count into.new)) }
         ensures published { published self.new ≡ published self.old }
         ensures pending { OnOk result (pending self.new ≡ pending self.old) }
         ensures given { given self.new ≡ given_after (given self.old) result }
@@ -113,7 +116,8 @@ pub trait Files {
     /// Makes the pending bytes the file `name` in one step, replacing an older file of that name. Nothing is
     /// pending afterwards.
     fn publish(&mut self, name: &str) -> Result<(), Trouble>
-        ensures file { OnOk result (published self.new ≡ with_file (published self.old) name.now (pending self.old)) }
+        ensures file { OnOk result (published self.new
+            ≡ with_file (published self.old) name.now (pending self.old)) }
         ensures pending { OnOk result (pending self.new ≡ nothing_pending (published self.old)) }
         ensures unchanged { OnErr result (published self.new ≡ published self.old) }
         ensures given { given self.new ≡ given self.old }
@@ -136,8 +140,10 @@ pub trait Random {
 
     /// Fills `into` with the next bytes. It fails where fewer bytes are to come.
     fn fill(&mut self, into: &mut [u8]) -> Result<(), Failed>
-        ensures answered { OnOk result (IfSome (to_come self.old) (λ bytes. IsDrawn bytes into.new)) }
-        ensures rest { OnOk result (to_come self.new ≡ option_map (drop (length into.new)) (to_come self.old)) }
+        ensures answered { OnOk result (IfSome (to_come self.old)
+            (λ bytes. IsDrawn bytes into.new)) }
+        ensures rest { OnOk result (to_come self.new
+            ≡ option_map (drop (length into.new)) (to_come self.old)) }
         ensures later { faults self.old ≤ faults self.new }
         ensures failed { OnErr result (Rose (faults self.old) (faults self.new)) };
 

@@ -1,7 +1,9 @@
+// Places in a file: which part a refusal is about, and which part a module is.
 ghost use Rattle.std.specs.Prelude.{◌≡◌, ◌≤◌, ◌↔◌, IsOk, IfOk};
 ghost use Rattle.pme_base.specs.declared.place.PlaceKind.TheVariants as kind_of;
 ghost use Rattle.pme_base.specs.Places.{NeedsColumn, NeedsPage, place_of};
 
+use crate::limits::ORDINAL_LIMIT;
 use thiserror::Error;
 
 /// The kind of a place: the file itself, a module on its own, or a part of a file.
@@ -33,8 +35,6 @@ pub struct Place {
 #[error("OrdinalTooLarge")]
 pub struct OrdinalTooLarge;
 
-const GREATEST_ORDINAL: u32 = 32_767;
-
 impl Place {
     /// The file as a whole.
     pub fn file() -> Place
@@ -60,7 +60,7 @@ impl Place {
     /// The part `kind` of a column chunk. `kind` must be one that has a row group and a column and no page.
     pub fn at_column(kind: PlaceKind, row_group: u32, column: u32) -> Result<Place, OrdinalTooLarge>
         requires { NeedsColumn kind }
-        ensures accepted { IsOk result ↔ ((row_group ≤ 32767) × (column ≤ 32767)) }
+        ensures accepted { IsOk result ↔ ((row_group ≤ ORDINAL_LIMIT) × (column ≤ ORDINAL_LIMIT)) }
         ensures place { IfOk result (λ place. place ≡ place_of kind row_group column 0) }
     {
         Place::checked(kind, row_group, column, 0)
@@ -74,7 +74,8 @@ impl Place {
         page: u32,
     ) -> Result<Place, OrdinalTooLarge>
         requires { NeedsPage kind }
-        ensures accepted { IsOk result ↔ ((row_group ≤ 32767) × (column ≤ 32767) × (page ≤ 32767)) }
+        ensures accepted { IsOk result ↔ ((row_group ≤ ORDINAL_LIMIT) × (column ≤ ORDINAL_LIMIT)
+            × (page ≤ ORDINAL_LIMIT)) }
         ensures place { IfOk result (λ place. place ≡ place_of kind row_group column page) }
     {
         Place::checked(kind, row_group, column, page)
@@ -97,10 +98,11 @@ impl Place {
         column: u32,
         page: u32,
     ) -> Result<Place, OrdinalTooLarge>
-        ensures accepted { IsOk result ↔ ((row_group ≤ 32767) × (column ≤ 32767) × (page ≤ 32767)) }
+        ensures accepted { IsOk result ↔ ((row_group ≤ ORDINAL_LIMIT) × (column ≤ ORDINAL_LIMIT)
+            × (page ≤ ORDINAL_LIMIT)) }
         ensures place { IfOk result (λ place. place ≡ place_of kind row_group column page) }
     {
-        if row_group > GREATEST_ORDINAL || column > GREATEST_ORDINAL || page > GREATEST_ORDINAL {
+        if row_group > ORDINAL_LIMIT || column > ORDINAL_LIMIT || page > ORDINAL_LIMIT {
             return Err(OrdinalTooLarge);
         }
         Ok(Place {

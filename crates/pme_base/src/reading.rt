@@ -1,5 +1,7 @@
-ghost use Rattle.std.specs.Prelude.{◌≡◌, ◌+◌, ◌≤◌, length, vec_len, true, OnOk, IfOk, IfSome};
+// Reading a named file: filling a buffer, and the size of the file.
+ghost use Rattle.std.specs.Prelude.{◌≡◌, ◌+◌, ◌≤◌, length, vec_len, OnOk, IfOk, IfSome};
 ghost use Rattle.std.specs.FinMap.{get};
+ghost use Rattle.pme_base.specs.Causes.{CausedBy};
 ghost use Rattle.pme_base.specs.Outside.{bytes_of, IsReadFull, RoseBy, HasCause};
 ghost use Rattle.pme_base.specs.Steps.{Answers, ReadsFail};
 ghost use Rattle.pme_base.specs.Reading as defined;
@@ -18,7 +20,8 @@ pub fn read_full<F: Files>(
     into: &mut [u8],
 ) -> Result<usize, Trouble>
     ensures within { IfOk result (λ count. count ≤ length into.new) }
-    ensures answered { IfOk result (λ count. IfSome (F.published files.old) (λ published. IsReadFull (bytes_of published name.now) at count into.new)) }
+    ensures answered { IfOk result (λ count. IfSome (F.published files.old)
+        (λ published. IsReadFull (bytes_of published name.now) at count into.new)) }
     ensures published { F.published files.new ≡ F.published files.old }
     ensures pending { OnOk result (F.pending files.new ≡ F.pending files.old) }
     ensures given { IfOk result (λ count. RoseBy count (F.given files.old) (F.given files.new)) }
@@ -51,9 +54,10 @@ pub fn read_refusal(trouble: Trouble) -> Refusal
 
 /// The length of the file `name` in bytes. A file that doesn't exist is refused as NoFile.
 pub fn file_size<F: Files>(files: &mut F, name: &str) -> Result<u64, Refusal>
-    ensures answer { IfSome (F.published files.old) (λ published. Answers result (defined.size_of (get published name.now))) }
+    ensures answer { IfSome (F.published files.old)
+        (λ published. Answers result (defined.size_of (get published name.now))) }
     ensures reads { ReadsFail (F.faults files.old) (F.faults files.new) result }
-    ensures causes { defined.is_reading_result result ≡ true }
+    ensures causes { CausedBy defined.is_reading_cause result }
     ensures published { F.published files.new ≡ F.published files.old }
     ensures pending { OnOk result (F.pending files.new ≡ F.pending files.old) }
     ensures given { F.given files.new ≡ F.given files.old }

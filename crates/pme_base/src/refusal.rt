@@ -1,3 +1,4 @@
+// Refusals: a cause, a place, an offset and further values.
 ghost use Rattle.std.specs.Prelude.{◌≡◌};
 ghost use Rattle.pme_base.specs.Refusals as defined;
 

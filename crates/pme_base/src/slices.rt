@@ -1,3 +1,4 @@
+// Helpers on byte slices.
 ghost use Rattle.std.specs.Prelude.{◌≡◌, ◌≤◌, min, length, take, drop, ◌++◌};
 ghost use Rattle.pme_base.specs.Outside.{AreBytes};
 

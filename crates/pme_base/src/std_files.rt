@@ -1,3 +1,4 @@
+// The files of the system.
 ghost use Rattle.std.specs.Prelude.{◌≡◌, ◌≤◌, length, None, IfOk, OnErr};
 ghost use Rattle.pme_base.specs.Outside.{HasCause};
 ghost use Rattle.pme_base.specs.Counts.{Rose};

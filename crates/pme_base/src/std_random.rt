@@ -1,3 +1,4 @@
+// The system's source of random bytes.
 ghost use Rattle.std.specs.Prelude.{◌≡◌, None};
 
 use crate::faults::counted;

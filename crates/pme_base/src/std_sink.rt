@@ -1,3 +1,4 @@
+// The system's output streams.
 ghost use Rattle.std.specs.Prelude.{◌≡◌, None};
 
 use crate::faults::counted;

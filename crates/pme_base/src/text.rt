@@ -1,3 +1,4 @@
+// Text that owns its memory.
 ghost use Rattle.std.specs.Prelude.{◌≡◌, [], ◌++◌, IfOk};
 
 use crate::bytes::Bytes;

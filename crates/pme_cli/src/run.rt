@@ -42,8 +42,16 @@ pub fn run<F: Files, N: Random, O: Sink, E: Sink>(
     ensures number { result.number ≡ number_of result.refusal }
     ensures no_subject { IsNone result.refusal → result.subject ≡ [] }
     ensures quiet { IsNone result.refusal → IsNone result.line }
-    ensures guarantees { let w = world_of F.published F.given F.faults N.to_come N.faults O.written O.faults E.written E.faults in RunGuarantees (line.command_of words.now) (w files.old random.old out.old err.old) (w files.new random.new out.new err.new) (outcome_of result.refusal result.subject) result.line }
-    ensures every { let w = world_of F.published F.given F.faults N.to_come N.faults O.written O.faults E.written E.faults in EveryRun (w files.old random.old out.old err.old) (w files.new random.new out.new err.new) (outcome_of result.refusal result.subject) }
+    ensures guarantees { let w = world_of F.published F.given F.faults N.to_come N.faults
+        O.written O.faults E.written E.faults in
+        RunGuarantees (line.command_of words.now)
+        (w files.old random.old out.old err.old) (w files.new random.new out.new err.new)
+        (outcome_of result.refusal result.subject) result.line }
+    ensures every { let w = world_of F.published F.given F.faults N.to_come N.faults
+        O.written O.faults E.written E.faults in
+        EveryRun
+        (w files.old random.old out.old err.old) (w files.new random.new out.new err.new)
+        (outcome_of result.refusal result.subject) }
 {
     match obey(alloc, words, files, random, out, err) {
         Ok(()) => Status {
@@ -75,8 +83,14 @@ fn obey<F: Files, N: Random, O: Sink, E: Sink>(
     out: &mut O,
     err: &mut E,
 ) -> Result<(), Stop>
-    ensures guarantees { let w = world_of F.published F.given F.faults N.to_come N.faults O.written O.faults E.written E.faults in Guarantees (line.command_of words.now) (w files.old random.old out.old err.old) (w files.new random.new out.new err.new) result }
-    ensures every { let w = world_of F.published F.given F.faults N.to_come N.faults O.written O.faults E.written E.faults in EveryRun (w files.old random.old out.old err.old) (w files.new random.new out.new err.new) result }
+    ensures guarantees { let w = world_of F.published F.given F.faults N.to_come N.faults
+        O.written O.faults E.written E.faults in
+        Guarantees (line.command_of words.now) (w files.old random.old out.old err.old)
+        (w files.new random.new out.new err.new) result }
+    ensures every { let w = world_of F.published F.given F.faults N.to_come N.faults
+        O.written O.faults E.written E.faults in
+        EveryRun (w files.old random.old out.old err.old)
+        (w files.new random.new out.new err.new) result }
 {
     match command_of(alloc, words) {
         Ok(Some(command)) => dispatch(alloc, command, files, random, out, err),
@@ -94,7 +108,10 @@ fn dispatch<F: Files, N: Random, O: Sink, E: Sink>(
     out: &mut O,
     _err: &mut E,
 ) -> Result<(), Stop>
-    ensures guarantees { let w = world_of F.published F.given F.faults N.to_come N.faults O.written O.faults E.written E.faults in Guarantees (Some command) (w files.old _random.old out.old _err.old) (w files.new _random.new out.new _err.new) result }
+    ensures guarantees { let w = world_of F.published F.given F.faults N.to_come N.faults
+        O.written O.faults E.written E.faults in
+        Guarantees (Some command) (w files.old _random.old out.old _err.old)
+        (w files.new _random.new out.new _err.new) result }
 {
     match command {
         Command::Module(args) => module(alloc, args, files, out),
@@ -105,9 +122,12 @@ fn dispatch<F: Files, N: Random, O: Sink, E: Sink>(
 
 /// Writes the line of a refusal in one call. Returns the failure that kept it from being written whole.
 fn put_line<E: Sink>(alloc: Global, stop: &Stop, err: &mut E) -> Option<Trouble>
-    ensures whole { IsNone result → E.written err.new ≡ followed_by (text.refusal_line stop.now.refusal stop.now.subject) (E.written err.old) }
-    ensures part { PutsFront (text.refusal_line stop.now.refusal stop.now.subject) (E.written err.old) (E.written err.new) }
-    ensures failed { IfSome result (λ t. t ≡ trouble.Failed → Rose (E.faults err.old) (E.faults err.new)) }
+    ensures whole { IsNone result → E.written err.new
+        ≡ followed_by (text.refusal_line stop.now.refusal stop.now.subject) (E.written err.old) }
+    ensures part { PutsFront (text.refusal_line stop.now.refusal stop.now.subject)
+        (E.written err.old) (E.written err.new) }
+    ensures failed { IfSome result (λ t. t ≡ trouble.Failed
+        → Rose (E.faults err.old) (E.faults err.new)) }
     ensures later { E.faults err.old ≤ E.faults err.new }
 {
     match refusal_line(alloc, &stop.refusal, stop.subject.as_slice()) {

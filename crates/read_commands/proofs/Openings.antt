@@ -1,4 +1,4 @@
--- What is read of a file, and what comes of opening it.
+-- Opening the module of a file, by the bytes that were read.
 use Rattle.std.proofs.Common.{◌≡◌, ℕ, List, Option, Some, None, IfSome, Result, Ok, Err, refl, sym, ◌∙◌, ap}
 use Rattle.pme_base.specs.declared.refusal.Refusal.{Refusal}
 use Rattle.std.specs.FinMap.{get}
@@ -22,13 +22,13 @@ pub opened_read : (key aad : List ℕ) (file : Option (List ℕ)) (b : List ℕ)
 opened_read key aad None b h = cc
 opened_read key aad (Some bytes) b h = ap (opened_buffer key aad) (sym (held (gcm_size loose 0 plaintext_limit true bytes) bytes b h))
 
--- a file that isn't read for its frame isn't opened
+-- a file whose frame is refused isn't opened
 pub opened_unread : (key aad : List ℕ) (file : Option (List ℕ)) (refusal : Refusal) → Err refusal ≡ sealed_bytes file → opened_file key aad file ≡ Err refusal
 opened_unread key aad None refusal h = sym h
 opened_unread key aad (Some bytes) refusal h =
     unheld (gcm_size loose 0 plaintext_limit true bytes) bytes refusal (λ size. unsealed_whole key aad loose 0 (take size bytes)) h
 
--- the same over files that are told
+-- both, where contracts see the files
 pub opened_told : (key aad name : List ℕ) (published : Option Published) (b : List ℕ) (result : Result (List ℕ) Refusal)
     → IfSome published (λ files. Answers (Ok b) (sealed_bytes (get files name))) → result ≡ opened_buffer key aad b
     → IfSome published (λ files. Answers result (opened_file key aad (get files name)))

@@ -11,13 +11,10 @@ use Rattle.command_parts.specs.declared.stop.Stop.{Stop}
 use Rattle.command_parts.specs.Stops.{about}
 use Rattle.command_parts.specs.Printing.{hex_line}
 use Rattle.read_commands.specs.SealedFile.{loose, plaintext_limit, opened_file}
-use Rattle.pme_base.specs.declared.refusal.Cause.{Cause}
-use Rattle.pme_base.specs.declared.refusal.Cause.TheVariants.{OutOfMemory, ReadFault, WriteFault, RandomFault, ServiceFault}
-use Rattle.pme_base.specs.Refusals.{is_free}
-use Rattle.command_parts.specs.TextCommand.{TextCompletes, caused_by}
-use Rattle.read_commands.specs.ModuleCommand.{ModuleCompletes, ModuleDone, IsSealedText, module_text, is_opening_cause, is_module_cause}
+use Rattle.command_parts.specs.TextCommand.{TextCompletes}
+use Rattle.read_commands.specs.ModuleCommand.{ModuleCompletes, ModuleDone, IsSealedText, module_text}
 
--- a module whose text was printed is done
+-- if the text was printed, the file is a module and its plaintext was printed
 pub module_done : (key aad name : List ℕ) (published : Option Published) (before after : Option (List ℕ)) (text : Result (List ℕ) Refusal) (outcome : Result Unit Stop)
     → IfOk text (λ t. IfSome published (λ files. IsSealedText key aad (get files name) t))
     → OnOk outcome (IsOkAnd (about name text) (λ t. after ≡ followed_by t before))
@@ -31,33 +28,15 @@ module_done key aad name (Some files) before after (Ok t) (Ok _) sealed printed 
   printed = printed ∙ ap (λ line. followed_by line before) sealed.1;
 }
 
--- a file that is there and wholly a module opens
+-- a file that one module fills opens
 opens : (key aad : List ℕ) (plain : List ℕ) (file : Option (List ℕ)) → IsSomeAnd file (IsGcm key aad plain plaintext_limit) → opened_file key aad file ≡ Ok plain
 opens key aad plain None h = absurd h
 opens key aad plain (Some bytes) h = opened_if_held key aad plain loose 0 plaintext_limit true bytes (lit≤ tt) h
 
--- so the text of such a file is printed, but for a fault or want of memory
+-- the command on such a file succeeds, unless a call outside fails or memory runs out
 pub module_completes : (key aad name : List ℕ) (published : Option Published) (Fault : Type 0) (outcome : Result Unit Stop)
     → TextCompletes (λ files. about name (module_text key aad (get files name))) published Fault outcome
     → ModuleCompletes key aad name published Fault outcome
 module_completes key aad name None Fault outcome text = tt
 module_completes key aad name (Some files) Fault outcome text = λ plain sealed.
     text (hex_line plain) (ap (λ (opened : Result (List ℕ) Refusal). about name (opened >>= (λ p. Ok (hex_line p)))) (opens key aad plain (get files name) sealed))
-
--- what opening ends with is among what the command ends with
-pub opening_ends : (text : Result (List ℕ) Refusal) → caused_by is_opening_cause text ≡ true → caused_by is_module_cause text ≡ true
-opening_ends (Ok t) h = refl
-opening_ends (Err refusal) h = wider refusal.cause h
-  where
-    wider : (cause : Cause) → is_opening_cause cause ≡ true → is_module_cause cause ≡ true
-    wider WriteFault h = refl
-    wider cause h = h
-
--- the causes of `module` that are possible at any step: ReadFault, WriteFault and OutOfMemory
-pub free_module_cause : (cause : Cause) → is_free cause ≡ true → is_module_cause cause ≡ true → (cause ≡ ReadFault → ⊥) → (cause ≡ WriteFault → ⊥) → cause ≡ OutOfMemory
-free_module_cause OutOfMemory f m r w = refl
-free_module_cause ReadFault f m r w = absurd (r refl)
-free_module_cause WriteFault f m r w = absurd (w refl)
-free_module_cause RandomFault f m r w = absurd cc
-free_module_cause ServiceFault f m r w = absurd cc
-free_module_cause _ f m r w = absurd cc

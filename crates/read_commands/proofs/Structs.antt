@@ -1,25 +1,22 @@
--- The ends of `thrift`: its text is that of the tree which a front of the file spells.
+-- The outcomes of `thrift`: its text is the text of the tree that the start of the file spells.
 use Rattle.std.proofs.Common.{◌≡◌, ℕ, ◌-◌, ◌≤◌, List, take, drop, length, Option, Some, None, IfSome, IsSomeAnd, Result, Ok, Err, OnOk, refl, sym, ◌∙◌, ap, subst, arith, length-drop, take-append-drop}
 use Rattle.std.specs.Prelude.{IfOk, IsOkAnd, true, false, nat_lt}
 use Rattle.std.specs.FinMap.{get}
-use Rattle.pme_base.specs.declared.refusal.Cause.{Cause}
-use Rattle.pme_base.specs.declared.refusal.Cause.TheVariants.{OutOfMemory, ReadFault, WriteFault, RandomFault, ServiceFault}
 use Rattle.pme_base.specs.declared.refusal.Refusal.{Refusal}
 use Rattle.pme_base.specs.Outside.{Published, followed_by}
-use Rattle.pme_base.specs.Refusals.{is_free}
 use Rattle.pme_base.specs.Steps.{◌>>=◌, Answers}
 use Rattle.thrift_compact.specs.declared.kind.TKind.TheVariants as kind
 use Rattle.thrift_compact.specs.Grammar.{Spells}
 use Rattle.thrift_compact.specs.Tree.{Tree}
-use Rattle.thrift_compact.specs.Whole.{told}
+use Rattle.thrift_compact.specs.Whole.{with_offsets}
 use Rattle.thrift_compact.proofs.WholeStruct.{whole_read}
 use Rattle.command_parts.specs.declared.stop.Stop.{Stop}
 use Rattle.command_parts.specs.Stops.{about}
 use Rattle.command_parts.specs.SmallFile.{small_bytes, small_size}
-use Rattle.command_parts.specs.TextCommand.{TextCompletes, caused_by}
-use Rattle.read_commands.specs.ThriftCommand.{Holds, IsTextOf, IsFileText, ThriftDone, ThriftCompletes, tree_text, text_of_answer, struct_text, thrift_text, is_text_cause, is_thrift_cause}
+use Rattle.command_parts.specs.TextCommand.{TextCompletes}
+use Rattle.read_commands.specs.ThriftCommand.{Holds, IsTextOf, IsFileText, ThriftDone, ThriftCompletes, tree_text, text_of_answer, struct_text, thrift_text}
 
--- the bytes that were counted spell the tree, and the others come after it
+-- the first `n` bytes spell the tree, and the others come after it
 pub held_text : (bytes : List ℕ) (tree : Tree) (n : ℕ) → n ≤ length bytes → Spells 32 kind.Struct tree (take n bytes)
     → IsTextOf bytes (tree_text tree (length bytes - n))
 held_text bytes tree n within spelled = (
@@ -66,7 +63,7 @@ thrift_done name (Some files) before after (Ok t) (Ok _) held printed = done_of 
 holding : (bytes : List ℕ) → Holds bytes → (text : List ℕ) × (struct_text bytes ≡ Ok text)
 holding bytes h =
     let there = whole_read h.tree h.front h.rest bytes h.spelled h.parts in
-    (_, ap (λ read. text_of_answer (length bytes) (told (length bytes) read)) there.1)
+    (_, ap (λ read. text_of_answer (length bytes) (with_offsets (length bytes) read)) there.1)
 
 -- a small file that begins with a struct has a text
 pub has_text : (file : Option (List ℕ)) → IsSomeAnd file (λ bytes. (length bytes ≤ 16777216) × Holds bytes) → (text : List ℕ) × (thrift_text file ≡ Ok text)
@@ -84,21 +81,3 @@ pub thrift_completes : (name : List ℕ) (published : Option Published) (Fault :
     → ThriftCompletes name published Fault outcome
 thrift_completes name None Fault outcome text = tt
 thrift_completes name (Some files) Fault outcome text = λ held. let there = has_text (get files name) held in text there.0 (ap (about name) there.1)
-
--- what making the text ends with is among what the command ends with
-pub text_ends : (text : Result (List ℕ) Refusal) → caused_by is_text_cause text ≡ true → caused_by is_thrift_cause text ≡ true
-text_ends (Ok t) h = refl
-text_ends (Err refusal) h = wider refusal.cause h
-  where
-    wider : (cause : Cause) → is_text_cause cause ≡ true → is_thrift_cause cause ≡ true
-    wider WriteFault h = refl
-    wider cause h = h
-
--- of the causes that may come at any step, `thrift` has two faults and want of memory
-pub free_thrift_cause : (cause : Cause) → is_free cause ≡ true → is_thrift_cause cause ≡ true → (cause ≡ ReadFault → ⊥) → (cause ≡ WriteFault → ⊥) → cause ≡ OutOfMemory
-free_thrift_cause OutOfMemory f m r w = refl
-free_thrift_cause ReadFault f m r w = absurd (r refl)
-free_thrift_cause WriteFault f m r w = absurd (w refl)
-free_thrift_cause RandomFault f m r w = absurd cc
-free_thrift_cause ServiceFault f m r w = absurd cc
-free_thrift_cause _ f m r w = absurd cc

@@ -1,13 +1,13 @@
--- The ends of `footer`: its text is that of a tail which was read with the keys of the keys file.
+-- The outcomes of `footer`: its text is the text of the tail that was read with the keys of the keys file.
 use Rattle.std.proofs.Common.{◌≡◌, ℕ, ◌≤◌, true, false, List, Option, Some, None, IfSome, Result, Ok, Err, OnOk, refl, sym, subst, ◌∙◌, ap, inl, inr, arith, length}
 use Rattle.std.proofs.lemmas.Bool.{false≢true}
 use Rattle.std.specs.Prelude.{IfErr, nat_lt}
 use Rattle.std.specs.FinMap.{get}
 use Rattle.pme_base.specs.declared.refusal.Cause.{Cause}
-use Rattle.pme_base.specs.declared.refusal.Cause.TheVariants.{BadKeys, NoFile, TooLarge, OutOfMemory, ReadFault, WriteFault, RandomFault, ServiceFault}
+use Rattle.pme_base.specs.declared.refusal.Cause.TheVariants.{BadKeys, NoFile, TooLarge, OutOfMemory, ReadFault, WriteFault}
 use Rattle.pme_base.specs.declared.refusal.Refusal.{Refusal}
 use Rattle.pme_base.specs.Outside.{Published, HoldBytes, followed_by}
-use Rattle.pme_base.specs.Refusals.{is_free}
+use Rattle.pme_base.specs.Causes.{CausedBy}
 use Rattle.pme_base.specs.Steps.{◌>>=◌, Answers}
 use Rattle.command_line.specs.declared.command.FooterArgs.{FooterArgs}
 use Rattle.key_rights.specs.declared.id_key.IdKey.{IdKey}
@@ -23,10 +23,10 @@ use Rattle.command_parts.specs.Printing.{is_printing_cause}
 use Rattle.command_parts.specs.SmallFile.{small_bytes, small_size}
 use Rattle.command_parts.specs.KeysInput.{loaded_keys, keys_or_bad, is_keys_cause}
 use Rattle.read_commands.specs.TailText.{tail_text}
-use Rattle.command_parts.specs.TextCommand.{TextCompletes, GivesText, Printed, caused_by, stopped_by}
-use Rattle.read_commands.specs.FooterCommand.{FooterDone, FooterCompletes, IsReadable, footer_text, tail_with, text_with, is_id_tail_cause, is_tail_text_cause, is_footer_cause, subject_for, IsAboutOneOf}
+use Rattle.command_parts.specs.TextCommand.{TextCompletes, GivesText, Printed, StoppedBy}
+use Rattle.read_commands.specs.FooterCommand.{FooterDone, FooterCompletes, IsReadable, footer_text, tail_with, text_with, is_id_tail_cause, is_footer_cause, subject_for, IsAboutOneOf}
 
--- a text that was printed is that of a tail, which the bytes of the file lay out
+-- if the text was printed, it is the text of the tail that the file's bytes lay out
 pub footer_done : (args : FooterArgs) (published : Option Published) (before after : Option (List ℕ)) (outcome : Result Unit Stop) → IfSome published HoldBytes
     → OnOk outcome (IfSome published (λ files. Printed (footer_text args files) before after))
     → OnOk outcome (IfSome published (λ files. FooterDone args files before after))
@@ -79,7 +79,7 @@ pub footer_completes : (args : FooterArgs) (published : Option Published) (Fault
 footer_completes args None Fault outcome text = tt
 footer_completes args (Some files) Fault outcome text = λ r. text (tail_text r.tail args.prefix) (readable_text args files r)
 
--- the text of the files, by the keys
+-- the text of the files, by the result of loading the keys
 abbrev with_keys : FooterArgs → Published → Result (List IdKey) Refusal → Result (List ℕ) Stop
 with_keys args files keys = about args.keys keys >>= (λ k. about args.file (text_with k args.prefix args.gcm_only (get files args.file)))
 
@@ -108,7 +108,7 @@ pub none_unread : (P : Type 0) (name : List ℕ) (published : Option Published) 
 none_unread P name None keys h = tt
 none_unread P name (Some files) keys h = small_loaded P keys (small_bytes (get files name)) (h refl)
 
--- and were not refused
+-- keys that were loaded were not refused
 not_refused : (P : Type 0) (keys : List IdKey) (loaded : Result (List IdKey) Refusal) → Ok keys ≡ loaded → IfErr loaded (λ _. P)
 not_refused P keys (Ok k) e = tt
 not_refused P keys (Err refusal) e = absurd cc
@@ -117,24 +117,6 @@ pub none_refused : (P : Type 0) (name : List ℕ) (published : Option Published)
     → IfSome published (λ files. IfErr (loaded_keys (get files name)) (λ _. P))
 none_refused P name None keys h = tt
 none_refused P name (Some files) keys h = not_refused P keys (loaded_keys (get files name)) (h refl)
-
--- what making the text ends with is among what the command ends with
-pub tail_text_ends : (text : Result (List ℕ) Stop) → stopped_by is_tail_text_cause text ≡ true → stopped_by is_footer_cause text ≡ true
-tail_text_ends (Ok t) h = refl
-tail_text_ends (Err stop) h = wider stop.refusal.cause h
-  where
-    wider : (cause : Cause) → is_tail_text_cause cause ≡ true → is_footer_cause cause ≡ true
-    wider WriteFault h = refl
-    wider cause h = h
-
--- of the causes that may come at any step, `footer` has two faults and want of memory
-pub free_footer_cause : (cause : Cause) → is_free cause ≡ true → is_footer_cause cause ≡ true → (cause ≡ ReadFault → ⊥) → (cause ≡ WriteFault → ⊥) → cause ≡ OutOfMemory
-free_footer_cause OutOfMemory f m r w = refl
-free_footer_cause ReadFault f m r w = absurd (r refl)
-free_footer_cause WriteFault f m r w = absurd (w refl)
-free_footer_cause RandomFault f m r w = absurd cc
-free_footer_cause ServiceFault f m r w = absurd cc
-free_footer_cause _ f m r w = absurd cc
 
 -- a stop whose line names no file is about any file
 bare_about : (cause : Cause) (a b : List ℕ) → line_form cause ≡ form.Bare → subject_by (line_form cause) a ≡ subject_by (line_form cause) b
@@ -153,7 +135,7 @@ keys_named args refusal h = by_cause refusal.cause refl h
     by_cause _ e h = absurd (false≢true h)
 
 -- a stop in reading the tail is about the data file
-pub tail_named : (args : FooterArgs) (text : Result (List ℕ) Refusal) (outcome : Result (List ℕ) Stop) → caused_by is_id_tail_cause text ≡ true
+pub tail_named : (args : FooterArgs) (text : Result (List ℕ) Refusal) (outcome : Result (List ℕ) Stop) → CausedBy is_id_tail_cause text
     → outcome ≡ about args.file text → IfErr outcome (IsAboutOneOf args)
 tail_named args text outcome h e = subst (λ (r : Result (List ℕ) Stop). IfErr r (IsAboutOneOf args)) (sym e) (named text h)
   where
@@ -163,7 +145,7 @@ tail_named args text outcome h e = subst (λ (r : Result (List ℕ) Stop). IfErr
     by_cause refusal TooLarge h = inr refl
     by_cause refusal _ h = refl
 
-    named : (text : Result (List ℕ) Refusal) → caused_by is_id_tail_cause text ≡ true → IfErr (about args.file text) (IsAboutOneOf args)
+    named : (text : Result (List ℕ) Refusal) → CausedBy is_id_tail_cause text → IfErr (about args.file text) (IsAboutOneOf args)
     named (Ok t) h = tt
     named (Err refusal) h = by_cause refusal refusal.cause h
 
@@ -173,15 +155,15 @@ plain_named args WriteFault h = refl
 plain_named args OutOfMemory h = refl
 plain_named args _ h = absurd (false≢true h)
 
--- the causes of reading the tail are among those of the text
-pub tail_ends : (name : List ℕ) (text : Result (List ℕ) Refusal) (outcome : Result (List ℕ) Stop) → caused_by is_id_tail_cause text ≡ true
-    → outcome ≡ about name text → stopped_by is_tail_text_cause outcome ≡ true
-tail_ends name text outcome h e = subst (λ (r : Result (List ℕ) Stop). stopped_by is_tail_text_cause r ≡ true) (sym e) (ends text h)
+-- the causes of reading the tail are among those for which there can be no text
+pub tail_ends : (name : List ℕ) (text : Result (List ℕ) Refusal) (outcome : Result (List ℕ) Stop) → CausedBy is_id_tail_cause text
+    → outcome ≡ about name text → StoppedBy is_footer_cause outcome
+tail_ends name text outcome h e = subst (StoppedBy is_footer_cause) (sym e) (ends text h)
   where
-    wider : (cause : Cause) → is_id_tail_cause cause ≡ true → is_tail_text_cause cause ≡ true
+    wider : (cause : Cause) → is_id_tail_cause cause ≡ true → is_footer_cause cause ≡ true
     wider BadKeys h = refl
     wider cause h = h
 
-    ends : (text : Result (List ℕ) Refusal) → caused_by is_id_tail_cause text ≡ true → stopped_by is_tail_text_cause (about name text) ≡ true
-    ends (Ok t) h = refl
+    ends : (text : Result (List ℕ) Refusal) → CausedBy is_id_tail_cause text → StoppedBy is_footer_cause (about name text)
+    ends (Ok t) h = tt
     ends (Err refusal) h = wider refusal.cause h

@@ -1,5 +1,5 @@
 -- The text of a file's tail: the footer's mode, the algorithm, the file's own part of the associated data, the prefix
--- and where it comes from, the columns, and how many row groups and rows there are.
+-- and its origin, the columns, and the numbers of row groups and rows.
 use Rattle.std.specs.Prelude.{ℕ, ℤ, Bool, true, false, List, [], ◌∷◌, ◌++◌, length, codes, Option, Some, None, decimal}
 use Rattle.std.specs.Fmt.{signed_decimal}
 use Rattle.hex.specs.Hex.{encode_lower}
@@ -20,13 +20,12 @@ mode_word Encrypted = codes "encrypted"
 mode_word Signed = codes "signed"
 mode_word Unencrypted = codes "unencrypted"
 
--- the algorithm's name, by whether page bodies are sealed in counter mode alone
+-- the algorithm's name
 abbrev pub algorithm_name : Bool → List ℕ
 algorithm_name true = codes "AES_GCM_CTR_V1"
 algorithm_name false = codes "AES_GCM_V1"
 
--- the prefix that the file stores, whether or not it is supplied too; the supplied one where the file stores none and
--- asks for one; or that there is none
+-- the line about the prefix: the one that the file stores; or the supplied one, if the file asks for it; or none
 abbrev pub unstored_words : Bool → Option (List ℕ) → List ℕ
 unstored_words true (Some supplied) = codes "supplied " ++ encode_lower supplied
 unstored_words true None = codes "none"
@@ -55,7 +54,7 @@ abbrev pub protection_lines : Option Protection → Option (List ℕ) → List �
 protection_lines None supplied = []
 protection_lines (Some protection) supplied = algorithm_lines protection.algorithm supplied
 
--- the text of a tail that was read with this prefix supplied, or none
+-- the text of a tail that was read with this supplied prefix, or without one
 abbrev pub tail_text : Tail → Option (List ℕ) → List ℕ
 tail_text tail supplied =
     line_of (codes "mode ") (mode_word tail.mode)

@@ -1,14 +1,15 @@
 // The command `footer`.
-ghost use Rattle.std.specs.Prelude.{◌≡◌, ◌≤◌, ◌+◌, length, true, IfSome, IfErr};
+ghost use Rattle.std.specs.Prelude.{◌≡◌, ◌≤◌, ◌+◌, length, IfSome, IfErr};
 ghost use Rattle.std.specs.FinMap.{get};
+ghost use Rattle.pme_base.specs.Causes.{CausedBy};
 ghost use Rattle.pme_base.specs.Outside.{bytes_of};
 ghost use Rattle.pme_base.specs.Steps.{Answers, ReadsFail};
 ghost use Rattle.command_parts.specs.SmallFile.{small_bytes};
 ghost use Rattle.command_parts.specs.KeysInput.{loaded_keys};
 ghost use Rattle.command_parts.specs.Stops.{StopsAbout};
-ghost use Rattle.command_parts.specs.TextCommand.{AnswersText, GivesText, caused_by, stopped_by};
+ghost use Rattle.command_parts.specs.TextCommand.{AnswersText, GivesText, StoppedBy};
 ghost use Rattle.command_parts.specs.World.{RandomState, SinkState, StopsReading, world_with};
-ghost use Rattle.read_commands.specs.FooterCommand.{FooterGuarantees, IsAboutOneOf, tail_with, text_with, is_id_tail_cause, is_tail_text_cause};
+ghost use Rattle.read_commands.specs.FooterCommand.{FooterGuarantees, IsAboutOneOf, tail_with, text_with, is_id_tail_cause, is_footer_cause};
 ghost use Rattle.read_commands.specs.FooterCommand as defined;
 
 use crate::tail_text::tail_text;
@@ -16,11 +17,11 @@ use command_line::{AadPrefix, FooterArgs};
 use command_parts::{Stop, about, load_keys, print_text, stop_of};
 use footer_modes::{ReadOptions, Tail, read_tail};
 use key_rights::IdKeys;
-use pme_base::{Bytes, Cause, Files, Refusal, Sink, plain_refusal};
+use pme_base::{
+    Bytes, Cause, FOOTER_AREA_LIMIT, Files, MODULE_LIMIT, Refusal, SMALL_FILE_LIMIT, Sink,
+    plain_refusal,
+};
 use std::alloc::Global;
-
-/// Size limit of the plaintext of a page body, in bytes.
-const BODY_LIMIT: u32 = 268_435_456;
 
 /// Loads the keys of a keys file, reads the footer of a Parquet file with them, and prints the footer's mode, the
 /// algorithm, the columns and the numbers of row groups and rows.
@@ -30,24 +31,31 @@ pub fn footer<F: Files, O: Sink>(
     files: &mut F,
     out: &mut O,
 ) -> Result<(), Stop>
-    ensures guarantees { (draws : RandomState) (err : SinkState) → let w = world_with draws err F.published F.given F.faults O.written O.faults in FooterGuarantees args (w files.old out.old) (w files.new out.new) result }
+    ensures guarantees { (draws : RandomState) (err : SinkState)
+        → let w = world_with draws err F.published F.given F.faults O.written O.faults in FooterGuarantees args (w files.old out.old) (w files.new out.new) result }
 {
     let text = footer_text(alloc, args, files);
     print_text(alloc, text, out)
 }
 
-/// The text that the command prints. The data file isn't looked at before the keys are loaded.
+/// The text that the command prints. The data file isn't read before the keys are loaded.
 #[tactic(auto, using(crate::proofs::Tails::tail_named, crate::proofs::Tails::tail_ends))]
 fn footer_text<F: Files>(alloc: Global, args: FooterArgs, files: &mut F) -> Result<Bytes, Stop>
     ensures gives { GivesText result (defined.footer_text args) (F.published files.old) }
     ensures reads { StopsReading (F.faults files.old) (F.faults files.new) result }
-    ensures causes { stopped_by is_tail_text_cause result ≡ true }
+    ensures causes { StoppedBy is_footer_cause result }
     ensures named { IfErr result (IsAboutOneOf args) }
     ensures subject { StopsAbout result }
     ensures published { F.published files.new ≡ F.published files.old }
-    ensures unread { IfSome (F.published files.old) (λ published. IfErr (small_bytes (get published args.keys)) (λ _. F.given files.new ≡ F.given files.old)) }
-    ensures keys { IfSome (F.published files.old) (λ published. IfErr (loaded_keys (get published args.keys)) (λ _. F.given files.new ≤ F.given files.old + length (bytes_of published args.keys))) }
-    ensures given { F.given files.new ≤ F.given files.old + 33620032 }
+    ensures unread { IfSome (F.published files.old)
+        (λ published. IfErr (small_bytes (get published args.keys))
+        (λ _. F.given files.new ≡ F.given files.old)) }
+    ensures keys { IfSome (F.published files.old)
+        (λ published. IfErr (loaded_keys (get published args.keys))
+        (λ _. F.given files.new ≤ F.given files.old + length (bytes_of published args.keys))) }
+    ensures given { F.given files.new
+        ≤ F.given files.old
+        + (SMALL_FILE_LIMIT + FOOTER_AREA_LIMIT + 64) }
 {
     let FooterArgs {
         file,
@@ -72,11 +80,12 @@ fn text_with<F: Files>(
     files: &mut F,
     name: &str,
 ) -> Result<Bytes, Refusal>
-    ensures answer { AnswersText result (λ files. text_with keys prefix.now gcm_only (get files name.now)) (F.published files.old) }
+    ensures answer { AnswersText result
+        (λ files. text_with keys prefix.now gcm_only (get files name.now)) (F.published files.old) }
     ensures reads { ReadsFail (F.faults files.old) (F.faults files.new) result }
-    ensures causes { caused_by is_id_tail_cause result ≡ true }
+    ensures causes { CausedBy is_id_tail_cause result }
     ensures published { F.published files.new ≡ F.published files.old }
-    ensures given { F.given files.new ≤ F.given files.old + 16842816 }
+    ensures given { F.given files.new ≤ F.given files.old + (FOOTER_AREA_LIMIT + 64) }
 {
     let tail = match tail_with(alloc, keys, prefix, gcm_only, files, name) {
         Ok(tail) => tail,
@@ -97,17 +106,18 @@ fn tail_with<F: Files>(
     files: &mut F,
     name: &str,
 ) -> Result<Tail, Refusal>
-    ensures answer { IfSome (F.published files.old) (λ published. Answers result (tail_with keys prefix.now gcm_only (get published name.now))) }
+    ensures answer { IfSome (F.published files.old) (λ published.
+        Answers result (tail_with keys prefix.now gcm_only (get published name.now))) }
     ensures reads { ReadsFail (F.faults files.old) (F.faults files.new) result }
-    ensures causes { caused_by is_id_tail_cause result ≡ true }
+    ensures causes { CausedBy is_id_tail_cause result }
     ensures published { F.published files.new ≡ F.published files.old }
-    ensures given { F.given files.new ≤ F.given files.old + 16842816 }
+    ensures given { F.given files.new ≤ F.given files.old + (FOOTER_AREA_LIMIT + 64) }
 {
     let mut finder = keys;
     let options = ReadOptions {
         gcm_only,
         allow_plain: false,
-        module_limit: BODY_LIMIT,
+        module_limit: MODULE_LIMIT,
     };
     match prefix {
         Some(prefix) => {

@@ -1,3 +1,4 @@
+// A module that was opened in its buffer.
 ghost use Rattle.std.specs.Prelude.{◌≡◌, ◌+◌, ◌≤◌, take, drop, vec_len};
 
 use std::marker::Model;
@@ -20,7 +21,7 @@ impl Model for Opened {
 }
 
 impl Opened {
-    /// The module whose `length` bytes of plaintext stand behind the first sixteen of the buffer.
+    /// The module whose plaintext is the `length` bytes after the first sixteen of the buffer.
     pub fn new(buffer: Vec<u8>, length: usize) -> Opened
         requires { 16 + length ≤ vec_len buffer }
         ensures { result ≡ take length (drop 16 buffer.items) }

@@ -34,7 +34,8 @@ pub fn tail_text(
 }
 
 fn push_mode(text: &mut Bytes, mode: FooterMode) -> Result<(), OutOfMemory>
-    ensures { OnOk result (text.new ≡ text.old ++ defined.line_of (codes "mode ") (defined.mode_word mode)) }
+    ensures { OnOk result (text.new
+        ≡ text.old ++ defined.line_of (codes "mode ") (defined.mode_word mode)) }
 {
     match mode {
         FooterMode::Encrypted => push_text(text, "mode encrypted\n"),
@@ -50,7 +51,8 @@ fn push_protection(
     protection: &Option<Protection>,
     supplied: &Option<AadPrefix>,
 ) -> Result<(), OutOfMemory>
-    ensures { OnOk result (text.new ≡ text.old ++ defined.protection_lines protection.now supplied.now) }
+    ensures { OnOk result (text.new
+        ≡ text.old ++ defined.protection_lines protection.now supplied.now) }
 {
     match protection {
         Some(protection) => push_algorithm_lines(alloc, text, &protection.algorithm, supplied),
@@ -64,7 +66,8 @@ fn push_algorithm_lines(
     algorithm: &AlgorithmMeta,
     supplied: &Option<AadPrefix>,
 ) -> Result<(), OutOfMemory>
-    ensures { OnOk result (text.new ≡ text.old ++ defined.algorithm_lines algorithm.now supplied.now) }
+    ensures { OnOk result (text.new
+        ≡ text.old ++ defined.algorithm_lines algorithm.now supplied.now) }
 {
     push_algorithm(text, algorithm.ctr)?;
     push_hex_line(alloc, text, "unique ", algorithm.unique.as_slice())?;
@@ -82,7 +85,8 @@ fn algorithm_name(ctr: bool) -> &'static str
 }
 
 fn push_algorithm(text: &mut Bytes, ctr: bool) -> Result<(), OutOfMemory>
-    ensures { OnOk result (text.new ≡ text.old ++ defined.line_of (codes "algorithm ") (defined.algorithm_name ctr)) }
+    ensures { OnOk result (text.new
+        ≡ text.old ++ defined.line_of (codes "algorithm ") (defined.algorithm_name ctr)) }
 {
     push_text(text, "algorithm ")?;
     push_text(text, algorithm_name(ctr))?;
@@ -96,7 +100,8 @@ fn push_hex_line(
     name: &str,
     bytes: &[u8],
 ) -> Result<(), OutOfMemory>
-    ensures { OnOk result (text.new ≡ text.old ++ defined.line_of name.now (encode_lower bytes.now)) }
+    ensures { OnOk result (text.new
+        ≡ text.old ++ defined.line_of name.now (encode_lower bytes.now)) }
 {
     push_text(text, name)?;
     push_hex(alloc, text, bytes)?;
@@ -109,7 +114,8 @@ fn push_prefix(
     algorithm: &AlgorithmMeta,
     supplied: &Option<AadPrefix>,
 ) -> Result<(), OutOfMemory>
-    ensures { OnOk result (text.new ≡ text.old ++ defined.line_of (codes "prefix ") (defined.prefix_words algorithm.now.prefix algorithm.now.supply supplied.now)) }
+    ensures { OnOk result (text.new ≡ text.old ++ defined.line_of (codes "prefix ")
+        (defined.prefix_words algorithm.now.prefix algorithm.now.supply supplied.now)) }
 {
     match &algorithm.prefix {
         Some(stored) => push_hex_line(alloc, text, "prefix stored ", stored.as_slice()),
@@ -117,14 +123,15 @@ fn push_prefix(
     }
 }
 
-/// The line of a prefix that the file doesn't store.
+/// The line about a prefix that the file doesn't store.
 fn push_unstored(
     alloc: Global,
     text: &mut Bytes,
     supply: bool,
     supplied: &Option<AadPrefix>,
 ) -> Result<(), OutOfMemory>
-    ensures { OnOk result (text.new ≡ text.old ++ defined.line_of (codes "prefix ") (defined.unstored_words supply supplied.now)) }
+    ensures { OnOk result (text.new ≡ text.old
+        ++ defined.line_of (codes "prefix ") (defined.unstored_words supply supplied.now)) }
 {
     if !supply {
         return push_text(text, "prefix none\n");
@@ -148,7 +155,8 @@ fn push_columns(alloc: Global, text: &mut Bytes, columns: &[ColumnSpec]) -> Resu
 }
 
 fn push_column(alloc: Global, text: &mut Bytes, column: &ColumnSpec) -> Result<(), OutOfMemory>
-    ensures { OnOk result (text.new ≡ text.old ++ defined.line_of (codes "column ") (texts.heading_text column.now)) }
+    ensures { OnOk result (text.new
+        ≡ text.old ++ defined.line_of (codes "column ") (texts.heading_text column.now)) }
 {
     let heading = heading_text(alloc, column)?;
     push_text(text, "column ")?;

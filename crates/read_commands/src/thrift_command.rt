@@ -1,18 +1,20 @@
 // The command `thrift`.
-ghost use Rattle.std.specs.Prelude.{◌≡◌, ◌≤◌, ◌+◌, true, IfSome, IfOk, IfErr};
+ghost use Rattle.std.specs.Prelude.{◌≡◌, ◌≤◌, ◌+◌, IfSome, IfOk, IfErr};
 ghost use Rattle.std.specs.FinMap.{get};
+ghost use Rattle.pme_base.specs.Causes.{CausedBy};
 ghost use Rattle.pme_base.specs.Steps.{Answers, ReadsFail, Quiet};
 ghost use Rattle.thrift_compact.specs.View.{view};
 ghost use Rattle.command_parts.specs.SmallFile.{small_bytes};
-ghost use Rattle.command_parts.specs.TextCommand.{AnswersText, caused_by};
+ghost use Rattle.command_parts.specs.TextCommand.{AnswersText};
 ghost use Rattle.command_parts.specs.World.{RandomState, SinkState, world_with};
-ghost use Rattle.read_commands.specs.ThriftCommand.{ThriftGuarantees, IsTextOf, IsFileText, is_text_cause};
+ghost use Rattle.read_commands.specs.ThriftCommand.{ThriftGuarantees, IsTextOf, IsFileText, is_thrift_cause};
 ghost use Rattle.read_commands.specs.ThriftCommand as defined;
 
 use command_line::ThriftArgs;
 use command_parts::{Stop, about, print_text, read_small};
 use pme_base::{
-    Bytes, Cause, Detail, Files, OutOfMemory, Place, Refusal, Sink, plain_refusal, refusal_at,
+    Bytes, Cause, Detail, Files, OutOfMemory, Place, Refusal, SMALL_FILE_LIMIT, Sink,
+    plain_refusal, refusal_at,
 };
 use refusal_lines::push_decimal;
 use std::alloc::Global;
@@ -25,7 +27,8 @@ pub fn thrift<F: Files, O: Sink>(
     files: &mut F,
     out: &mut O,
 ) -> Result<(), Stop>
-    ensures guarantees { (draws : RandomState) (err : SinkState) → let w = world_with draws err F.published F.given F.faults O.written O.faults in ThriftGuarantees args (w files.old out.old) (w files.new out.new) result }
+    ensures guarantees { (draws : RandomState) (err : SinkState)
+        → let w = world_with draws err F.published F.given F.faults O.written O.faults in ThriftGuarantees args (w files.old out.old) (w files.new out.new) result }
 {
     let text = thrift_text(alloc, files, args.file.as_str());
     print_text(alloc, about(alloc, text, args.file), out)
@@ -33,13 +36,17 @@ pub fn thrift<F: Files, O: Sink>(
 
 /// The text of the struct at the front of the file `name`.
 fn thrift_text<F: Files>(alloc: Global, files: &mut F, name: &str) -> Result<Bytes, Refusal>
-    ensures answer { AnswersText result (λ files. defined.thrift_text (get files name.now)) (F.published files.old) }
-    ensures held { IfOk result (λ text. IfSome (F.published files.old) (λ files. IsFileText (get files name.now) text)) }
+    ensures answer { AnswersText result
+        (λ files. defined.thrift_text (get files name.now)) (F.published files.old) }
+    ensures held { IfOk result (λ text. IfSome (F.published files.old)
+        (λ files. IsFileText (get files name.now) text)) }
     ensures reads { ReadsFail (F.faults files.old) (F.faults files.new) result }
-    ensures causes { caused_by is_text_cause result ≡ true }
+    ensures causes { CausedBy is_thrift_cause result }
     ensures published { F.published files.new ≡ F.published files.old }
-    ensures unread { IfSome (F.published files.old) (λ published. IfErr (small_bytes (get published name.now)) (λ _. F.given files.new ≡ F.given files.old)) }
-    ensures given { F.given files.new ≤ F.given files.old + 16777216 }
+    ensures unread { IfSome (F.published files.old)
+        (λ published. IfErr (small_bytes (get published name.now))
+        (λ _. F.given files.new ≡ F.given files.old)) }
+    ensures given { F.given files.new ≤ F.given files.old + SMALL_FILE_LIMIT }
 {
     match read_small(alloc, files, name) {
         Ok(bytes) => struct_text(alloc, bytes.as_slice()),
@@ -52,7 +59,7 @@ fn struct_text(alloc: Global, bytes: &[u8]) -> Result<Bytes, Refusal>
     ensures answer { Answers result (defined.struct_text bytes.now) }
     ensures held { IfOk result (λ text. IsTextOf bytes.now text) }
     ensures quiet { Quiet result }
-    ensures causes { caused_by is_text_cause result ≡ true }
+    ensures causes { CausedBy is_thrift_cause result }
 {
     match read_tree(alloc, bytes) {
         Ok((tree, count)) => match tree_text(alloc, &tree, bytes.len() - count) {

@@ -1,4 +1,4 @@
--- The table of causes: the number that the program ends with, the name, and the form of the line.
+-- The table of causes: the exit status of the program, the name, and the form of the line.
 use Rattle.std.specs.Prelude.{ℕ, List, codes}
 use Rattle.pme_base.specs.declared.refusal.Cause.{Cause}
 use Rattle.pme_base.specs.declared.refusal.Cause.TheVariants.{Truncated, BadLength, BadTag, BadThrift, MissingField, BadField, BadMagic, BadFooterLength, NotEncrypted, PrefixNeeded, PrefixUnused, PrefixDiffers, FooterKeyMissing, AlgorithmRefused, Unsupported, Mismatch, BadPage, Hidden, NoSuchColumn, BadMaterial, NoMaterial, WrapTag, KeyLength, NotExternal, Denied, ServiceFault, BadPolicy, FileExists, NonceRepeated, BadTable, BadRing, BadKeys, TooLarge, NoFile, ReadFault, WriteFault, RandomFault, Usage, OutOfMemory}
@@ -87,7 +87,7 @@ cause_name RandomFault = codes "RandomFault"
 cause_name Usage = codes "Usage"
 cause_name OutOfMemory = codes "OutOfMemory"
 
--- A: the line tells the file, the place and the offset. B: it tells the file. C: it tells the cause alone.
+-- the form of the line: `Place` for file, place, offset and values, `File` for file and values, `Bare` for the cause alone
 abbrev pub line_form : Cause → LineForm
 line_form Truncated = Place
 line_form BadLength = Place

@@ -1,4 +1,4 @@
--- The values that a refusal tells, as they stand in its line: each after a space, and nothing for none.
+-- The text of a refusal's detail: each value after a space, and nothing if there are no values.
 use Rattle.std.specs.Prelude.{ℕ, List, [], ◌++◌, codes}
 use Rattle.std.specs.Fmt.{decimal, signed_decimal}
 use Rattle.hex.specs.Hex.{encode_lower}
@@ -57,13 +57,14 @@ item_word item.GivenId = codes "given-id"
 item_word item.GivenVersion = codes "given-version"
 item_word item.GivenRepeated = codes "given-repeated"
 
--- one value, or two, after a space each
+-- one value, or two values, each after a space
 abbrev pub spaced : List ℕ → List ℕ
 spaced word = codes " " ++ word
 
 abbrev pub spaced_pair : List ℕ → List ℕ → List ℕ
 spaced_pair first second = codes " " ++ first ++ codes " " ++ second
 
+-- the text of a detail
 abbrev pub detail_text : Detail → List ℕ
 detail_text Nothing = []
 detail_text (Pair first second) = spaced_pair (decimal first) (decimal second)

@@ -1,4 +1,4 @@
--- The line of a refusal.
+-- The text of a place, and the line of a refusal.
 use Rattle.std.specs.Prelude.{ℕ, List, [], ◌∷◌, ◌++◌, codes}
 use Rattle.std.specs.Fmt.{decimal}
 use Rattle.pme_base.specs.declared.place.Place.{Place}
@@ -10,14 +10,15 @@ use Rattle.refusal_lines.specs.declared.cause_table.LineForm.TheVariants as form
 use Rattle.refusal_lines.specs.CauseRows.{status_number, cause_name, line_form}
 use Rattle.refusal_lines.specs.DetailText.{detail_text, spaced, spaced_pair}
 
--- the row group and the column of a place, after a space each
+-- the row group and the column of a place, each after a space
 abbrev pub column_text : Place → List ℕ
 column_text place = spaced_pair (decimal place.row_group) (decimal place.column)
 
--- the page too
+-- the row group, the column and the page of a place, each after a space
 abbrev pub page_text : Place → List ℕ
 page_text place = column_text place ++ spaced (decimal place.page)
 
+-- the word for a kind of place
 abbrev pub kind_word : PlaceKind → List ℕ
 kind_word File = codes "file"
 kind_word Loose = codes "module"
@@ -43,6 +44,7 @@ ordinals_text DictionaryPageHeader place = column_text place
 ordinals_text ColumnIndex place = column_text place
 ordinals_text OffsetIndex place = column_text place
 
+-- the text of a place
 abbrev pub place_text : Place → List ℕ
 place_text place = kind_word place.kind ++ ordinals_text place.kind place
 

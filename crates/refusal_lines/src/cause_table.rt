@@ -1,14 +1,15 @@
+// The number, the name and the form of the line of each cause.
 ghost use Rattle.std.specs.Prelude.{◌≡◌};
 ghost use Rattle.refusal_lines.specs.CauseRows as rows;
 
 use pme_base::Cause;
 
-/// What the line of a cause has after the number and the name of the cause.
+/// The form of a refusal's line: what follows the number and the name of the cause.
 #[derive(Clone, Copy, Debug, PartialEq, Eq, Drop)]
 pub enum LineForm {
-    /// The file, the place in it, the offset, and the values of the refusal.
+    /// The file, the place in it, the offset, and the values of the detail.
     Place,
-    /// The file, and the values of the refusal.
+    /// The file and the values of the detail.
     File,
     /// Nothing.
     Bare,

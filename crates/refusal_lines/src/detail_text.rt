@@ -1,3 +1,4 @@
+// The text of a refusal's detail.
 ghost use Rattle.std.specs.Prelude.{◌≡◌, ◌++◌, OnOk, codes};
 ghost use Rattle.std.specs.Fmt.{decimal, signed_decimal};
 ghost use Rattle.hex.specs.Hex.{encode_lower};
@@ -11,8 +12,8 @@ use crate::words::{fault_word, item_word, part_word, struct_word};
 use pme_base::{Bytes, Detail, OutOfMemory, StructName};
 use std::alloc::Global;
 
-/// Adds the values of a refusal, each after a space, and nothing where there are none.
-/// A name without bytes is a value: its space is added.
+/// Appends the values of a refusal's detail, each after a space; nothing if there are none. An empty name counts as a
+/// value, so that its space is appended.
 pub fn push_detail(alloc: Global, line: &mut Bytes, detail: &Detail) -> Result<(), OutOfMemory>
     ensures { OnOk result (line.new ≡ line.old ++ defined.detail_text detail.now) }
 {
@@ -44,49 +45,57 @@ pub fn push_detail(alloc: Global, line: &mut Bytes, detail: &Detail) -> Result<(
     }
 }
 
+/// Appends two numbers in decimal, each after a space.
 fn push_two_decimals(
     alloc: Global,
     line: &mut Bytes,
     first: u64,
     second: u64,
 ) -> Result<(), OutOfMemory>
-    ensures { OnOk result (line.new ≡ line.old ++ defined.spaced_pair (decimal first) (decimal second)) }
+    ensures { OnOk result (line.new ≡ line.old ++ defined.spaced_pair (decimal first)
+        (decimal second)) }
 {
     push_spaced_decimal(alloc, line, first)?;
     push_spaced_decimal(alloc, line, second)
 }
 
+/// Appends two signed numbers in decimal, each after a space.
 fn push_two_signed(
     alloc: Global,
     line: &mut Bytes,
     found: i64,
     wanted: i64,
 ) -> Result<(), OutOfMemory>
-    ensures { OnOk result (line.new ≡ line.old ++ defined.spaced_pair (signed_decimal found) (signed_decimal wanted)) }
+    ensures { OnOk result (line.new ≡ line.old ++ defined.spaced_pair (signed_decimal found)
+        (signed_decimal wanted)) }
 {
     push_spaced_signed(alloc, line, found)?;
     push_spaced_signed(alloc, line, wanted)
 }
 
+/// Appends two byte strings as lower-case hex, each after a space.
 fn push_two_hexes(
     alloc: Global,
     line: &mut Bytes,
     first: &[u8],
     second: &[u8],
 ) -> Result<(), OutOfMemory>
-    ensures { OnOk result (line.new ≡ line.old ++ defined.spaced_pair (encode_lower first.now) (encode_lower second.now)) }
+    ensures { OnOk result (line.new ≡ line.old ++ defined.spaced_pair (encode_lower first.now)
+        (encode_lower second.now)) }
 {
     push_spaced_hex(alloc, line, first)?;
     push_spaced_hex(alloc, line, second)
 }
 
+/// Appends a space and a field of a Thrift struct, as `STRUCT.NUMBER`.
 fn push_field(
     alloc: Global,
     line: &mut Bytes,
     name: StructName,
     number: i16,
 ) -> Result<(), OutOfMemory>
-    ensures { OnOk result (line.new ≡ line.old ++ defined.spaced (defined.struct_word name ++ codes "." ++ signed_decimal number)) }
+    ensures { OnOk result (line.new ≡ line.old ++ defined.spaced
+        (defined.struct_word name ++ codes "." ++ signed_decimal number)) }
 {
     push_spaced_text(line, struct_word(name))?;
     push_text(line, ".")?;

@@ -1,5 +1,5 @@
-//! The line that the program prints for a refusal: the number and the name of its cause, and by the cause also the
-//! file, the place, the offset and further values. `refusal_line` of `specs/RefusalText.antt` defines every byte.
+//! The line that the program prints for a refusal: the number and the name of its cause and, depending on the cause, the
+//! file, the place, the offset and further values. `refusal_line` in `specs/RefusalText.antt` defines every byte.
 #![tactic(auto)]
 
 mod cause_table;

@@ -1,3 +1,4 @@
+// The line of a refusal.
 ghost use Rattle.std.specs.Prelude.{◌≡◌, ◌++◌, OnOk, IfOk, codes};
 ghost use Rattle.std.specs.Fmt.{decimal};
 ghost use Rattle.refusal_lines.specs.CauseRows as rows;
@@ -11,8 +12,8 @@ use crate::place_text::push_place;
 use pme_base::{Bytes, Cause, OutOfMemory, Refusal};
 use std::alloc::Global;
 
-/// The line of a refusal, with its line feed. `subject` is the name of the file that it is about; a bare line
-/// leaves it out.
+/// The line of a refusal, with its line feed. `subject` is the name of the file that the refusal is about; lines of the
+/// form `Bare` don't contain it.
 pub fn refusal_line(alloc: Global, refusal: &Refusal, subject: &[u8]) -> Result<Bytes, OutOfMemory>
     ensures { IfOk result (λ line. line ≡ defined.refusal_line refusal.now subject.now) }
 {
@@ -23,8 +24,10 @@ pub fn refusal_line(alloc: Global, refusal: &Refusal, subject: &[u8]) -> Result<
     Ok(line)
 }
 
+/// Appends `refused`, the number and the name of a cause.
 fn push_cause(alloc: Global, line: &mut Bytes, cause: Cause) -> Result<(), OutOfMemory>
-    ensures { OnOk result (line.new ≡ line.old ++ (codes "refused " ++ decimal (rows.status_number cause) ++ codes " " ++ rows.cause_name cause)) }
+    ensures { OnOk result (line.new ≡ line.old ++ (codes "refused " ++
+        decimal (rows.status_number cause) ++ codes " " ++ rows.cause_name cause)) }
 {
     push_text(line, "refused ")?;
     push_decimal(alloc, line, u64::from(status_number(cause)))?;
@@ -32,13 +35,15 @@ fn push_cause(alloc: Global, line: &mut Bytes, cause: Cause) -> Result<(), OutOf
     push_text(line, cause_name(cause))
 }
 
+/// Appends the rest of the line, by the form of its cause.
 fn push_form(
     alloc: Global,
     line: &mut Bytes,
     refusal: &Refusal,
     subject: &[u8],
 ) -> Result<(), OutOfMemory>
-    ensures { OnOk result (line.new ≡ line.old ++ defined.form_text (rows.line_form refusal.now.cause) refusal.now subject.now) }
+    ensures { OnOk result (line.new ≡ line.old ++ defined.form_text
+        (rows.line_form refusal.now.cause) refusal.now subject.now) }
 {
     match line_form(refusal.cause) {
         LineForm::Place => {

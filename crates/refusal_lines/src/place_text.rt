@@ -1,3 +1,4 @@
+// The text of a place in a file.
 ghost use Rattle.std.specs.Prelude.{◌≡◌, ◌++◌, OnOk};
 ghost use Rattle.refusal_lines.specs.RefusalText as defined;
 
@@ -6,7 +7,7 @@ use crate::words::kind_word;
 use pme_base::{Bytes, OutOfMemory, Place, PlaceKind};
 use std::alloc::Global;
 
-/// Adds the words of a place: its kind, and the ordinals that the kind has.
+/// Appends a place: the word for its kind, and the ordinals that places of this kind have.
 pub fn push_place(alloc: Global, line: &mut Bytes, place: &Place) -> Result<(), OutOfMemory>
     ensures { OnOk result (line.new ≡ line.old ++ defined.place_text place.now) }
 {
@@ -28,6 +29,7 @@ fn push_ordinals(alloc: Global, line: &mut Bytes, place: &Place) -> Result<(), O
     }
 }
 
+/// Appends the row group and the column of a place.
 fn push_column(alloc: Global, line: &mut Bytes, place: &Place) -> Result<(), OutOfMemory>
     ensures { OnOk result (line.new ≡ line.old ++ defined.column_text place.now) }
 {
@@ -35,6 +37,7 @@ fn push_column(alloc: Global, line: &mut Bytes, place: &Place) -> Result<(), Out
     push_spaced_decimal(alloc, line, u64::from(place.column))
 }
 
+/// Appends the row group, the column and the page of a place.
 fn push_page(alloc: Global, line: &mut Bytes, place: &Place) -> Result<(), OutOfMemory>
     ensures { OnOk result (line.new ≡ line.old ++ defined.page_text place.now) }
 {

@@ -1,9 +1,11 @@
+// The words for kinds of places, structs, Thrift faults, page parts and faults of key ring files.
 ghost use Rattle.std.specs.Prelude.{◌≡◌};
 ghost use Rattle.refusal_lines.specs.DetailText as defined;
 ghost use Rattle.refusal_lines.specs.RefusalText as refusal_text;
 
 use pme_base::{ItemWord, PagePart, PlaceKind, StructName, ThriftFault};
 
+/// The word for a kind of place.
 pub fn kind_word(kind: PlaceKind) -> &'static str
     ensures { result.now ≡ refusal_text.kind_word kind }
 {
@@ -21,6 +23,7 @@ pub fn kind_word(kind: PlaceKind) -> &'static str
     }
 }
 
+/// The name of a Thrift struct.
 pub fn struct_word(name: StructName) -> &'static str
     ensures { result.now ≡ defined.struct_word name }
 {
@@ -44,6 +47,7 @@ pub fn struct_word(name: StructName) -> &'static str
     }
 }
 
+/// The word for a fault in Thrift data.
 pub fn fault_word(fault: ThriftFault) -> &'static str
     ensures { result.now ≡ defined.fault_word fault }
 {
@@ -57,6 +61,7 @@ pub fn fault_word(fault: ThriftFault) -> &'static str
     }
 }
 
+/// The word for a part of a page.
 pub fn part_word(part: PagePart) -> &'static str
     ensures { result.now ≡ defined.part_word part }
 {
@@ -67,6 +72,7 @@ pub fn part_word(part: PagePart) -> &'static str
     }
 }
 
+/// The word for a fault in an item of a key ring file.
 pub fn item_word(word: ItemWord) -> &'static str
     ensures { result.now ≡ defined.item_word word }
 {

@@ -1,5 +1,5 @@
-// Tests that cross the crates of tables: the cells of pages, and tables as CSV text. They stand here so that neither of
-// those crates is proved again for its tests.
+//! Tests of plain_pages and table_text. They are in a crate of their own so that neither crate is proved a second time with
+//! its tests.
 #![tactic(auto)]
 
 #[cfg(test)]

@@ -1,3 +1,4 @@
+// Tests of plain_pages.
 ghost use Rattle.std.specs.Prelude.{◌≡◌, ◌<◌, false, length, IfOk};
 ghost use Rattle.plain_pages.specs.Cells.{bytes as bytes_cell};
 ghost use Rattle.plain_pages.specs.ColumnSpecs.{HasWord, IsColumnSpec};
@@ -29,7 +30,7 @@ fn spec_of(alloc: Global, kind: ColumnKind, optional: bool) -> ColumnSpec {
     }
 }
 
-/// A column without cells, by the name of `a`.
+/// A column with the name `a` and no cells.
 fn column_of(alloc: Global, kind: ColumnKind, optional: bool) -> Result<TableColumn, OutOfMemory>
     requires { HasWord kind false }
     ensures kind { IfOk result (λ column. column.spec.kind ≡ kind) }
@@ -53,8 +54,8 @@ fn shown(alloc: Global, view: &PageView<'_>) -> Result<String, AllocError> {
     Ok(text)
 }
 
-/// The cells of a page, or the detail of its refusal.
-fn told(
+/// The cells of a page, or the detail of the error.
+fn cells_or_error(
     alloc: Global,
     spec: &ColumnSpec,
     count: u16,
@@ -76,7 +77,7 @@ fn told(
 }
 
 #[test]
-fn reads_plain_pages_or_tells_the_first_fault(rt: HostRuntime) -> Result<(), Fail> {
+fn reads_plain_pages_or_reports_the_first_fault(rt: HostRuntime) -> Result<(), Fail> {
     let rows: [(ColumnKind, bool, u16, &[u8], &str); 20] = [
         (
             ColumnKind::Int32,
@@ -205,7 +206,7 @@ fn reads_plain_pages_or_tells_the_first_fault(rt: HostRuntime) -> Result<(), Fai
     ];
     for (kind, optional, count, body, expected) in rows {
         let spec = spec_of(rt.alloc(), kind, optional);
-        let text = told(rt.alloc(), &spec, count, 0, None, body)?;
+        let text = cells_or_error(rt.alloc(), &spec, count, 0, None, body)?;
         assert_eq!(rt; text.as_str(), expected);
     }
     Ok(())
@@ -252,14 +253,14 @@ fn reads_indexes_into_a_dictionary(rt: HostRuntime) -> Result<(), Fail> {
     };
     for (optional, count, body, expected) in rows {
         let spec = spec_of(rt.alloc(), ColumnKind::Int32, optional);
-        let text = told(rt.alloc(), &spec, count, 8, Some(&dictionary), body)?;
+        let text = cells_or_error(rt.alloc(), &spec, count, 8, Some(&dictionary), body)?;
         assert_eq!(rt; text.as_str(), expected);
     }
     Ok(())
 }
 
 #[test]
-fn tells_the_first_entry_that_is_not_there(rt: HostRuntime) -> Result<(), Fail> {
+fn reports_the_first_missing_entry(rt: HostRuntime) -> Result<(), Fail> {
     let spec = spec_of(rt.alloc(), ColumnKind::ByteArray, false);
     let body = Bytes::copy_of(rt.alloc(), &[0, 0, 0, 0, 2, 0, 0, 0, 1])?;
     let refused = Dictionary::build(rt.alloc(), &Place::file(), &spec, 2, body).err();
@@ -301,7 +302,7 @@ fn small_numbers(alloc: Global) -> Result<TableColumn, OutOfMemory> {
     Ok(column)
 }
 
-/// A value that is bytes, a null, and the value again.
+/// A column with three cells: the value, a null, and the value again.
 fn around_a_null(alloc: Global, kind: ColumnKind, value: &[u8]) -> Result<TableColumn, OutOfMemory>
     requires value { IsValueOf kind (bytes_cell value.now) }
     requires word { HasWord kind false }
@@ -313,8 +314,13 @@ fn around_a_null(alloc: Global, kind: ColumnKind, value: &[u8]) -> Result<TableC
     Ok(column)
 }
 
-/// The page of some rows of a table with this one column, and its cells as they are read again.
-fn written(alloc: Global, column: TableColumn, from: u16, to: u16) -> Result<String, Fail> {
+/// The page that is written for some rows of a table with this one column, and the cells that are read from it.
+fn written_and_read(
+    alloc: Global,
+    column: TableColumn,
+    from: u16,
+    to: u16,
+) -> Result<String, Fail> {
     let mut table = Table::new(alloc);
     table.add(column)?;
     let from = usize::from(from);
@@ -325,30 +331,30 @@ fn written(alloc: Global, column: TableColumn, from: u16, to: u16) -> Result<Str
     let mut body = Bytes::new(alloc);
     write_page(&table, 0, from, to, &mut body)?;
     let count = (to - from) as u16;
-    let read = told(alloc, table.spec(0), count, 0, None, body.as_slice())?;
+    let read = cells_or_error(alloc, table.spec(0), count, 0, None, body.as_slice())?;
     Ok(format!(in alloc; "{:?} {read}", body.as_slice())?)
 }
 
 #[test]
 fn writes_pages_that_are_read_back(rt: HostRuntime) -> Result<(), Fail> {
-    let whole = written(rt.alloc(), texts(rt.alloc())?, 0, 4)?;
+    let whole = written_and_read(rt.alloc(), texts(rt.alloc())?, 0, 4)?;
     assert_eq!(rt;
         whole.as_str(),
         "[2, 0, 0, 0, 3, 13, 3, 0, 0, 0, 97, 110, 110, 0, 0, 0, 0, 3, 0, 0, 0, 97, 44, 98] Bytes([97, 110, 110]);Null;Bytes([]);Bytes([97, 44, 98]);"
     );
-    let rest = written(rt.alloc(), texts(rt.alloc())?, 2, 4)?;
+    let rest = written_and_read(rt.alloc(), texts(rt.alloc())?, 2, 4)?;
     assert_eq!(rt;
         rest.as_str(),
         "[2, 0, 0, 0, 3, 3, 0, 0, 0, 0, 3, 0, 0, 0, 97, 44, 98] Bytes([]);Bytes([97, 44, 98]);"
     );
-    let bits = written(rt.alloc(), flags(rt.alloc())?, 0, 4)?;
+    let bits = written_and_read(rt.alloc(), flags(rt.alloc())?, 0, 4)?;
     assert_eq!(rt;
         bits.as_str(),
         "[2, 0, 0, 0, 3, 11, 5] Bool(true);Bool(false);Null;Bool(true);"
     );
-    let middle = written(rt.alloc(), flags(rt.alloc())?, 1, 3)?;
+    let middle = written_and_read(rt.alloc(), flags(rt.alloc())?, 1, 3)?;
     assert_eq!(rt; middle.as_str(), "[2, 0, 0, 0, 3, 1, 0] Bool(false);Null;");
-    let plain = written(rt.alloc(), numbers(rt.alloc())?, 0, 2)?;
+    let plain = written_and_read(rt.alloc(), numbers(rt.alloc())?, 0, 2)?;
     assert_eq!(rt;
         plain.as_str(),
         "[5, 0, 0, 0, 0, 0, 0, 0, 254, 255, 255, 255, 255, 255, 255, 255] Int64(5);Int64(-2);"
@@ -359,19 +365,19 @@ fn writes_pages_that_are_read_back(rt: HostRuntime) -> Result<(), Fail> {
 #[test]
 fn writes_the_other_types_with_nulls(rt: HostRuntime) -> Result<(), Fail> {
     let alloc = rt.alloc();
-    let whole = written(alloc, small_numbers(alloc)?, 0, 3)?;
+    let whole = written_and_read(alloc, small_numbers(alloc)?, 0, 3)?;
     assert_eq!(rt;
         whole.as_str(),
         "[2, 0, 0, 0, 3, 5, 249, 255, 255, 255, 2, 1, 0, 0] Int32(-7);Null;Int32(258);"
     );
     let float = around_a_null(alloc, ColumnKind::Float, &[0, 0, 128, 63])?;
-    let whole = written(alloc, float, 0, 3)?;
+    let whole = written_and_read(alloc, float, 0, 3)?;
     assert_eq!(rt;
         whole.as_str(),
         "[2, 0, 0, 0, 3, 5, 0, 0, 128, 63, 0, 0, 128, 63] Bytes([0, 0, 128, 63]);Null;Bytes([0, 0, 128, 63]);"
     );
     let double = around_a_null(alloc, ColumnKind::Double, &[0, 0, 0, 0, 0, 0, 240, 63])?;
-    let last = written(alloc, double, 1, 3)?;
+    let last = written_and_read(alloc, double, 1, 3)?;
     assert_eq!(rt;
         last.as_str(),
         "[2, 0, 0, 0, 3, 2, 0, 0, 0, 0, 0, 0, 240, 63] Null;Bytes([0, 0, 0, 0, 0, 0, 240, 63]);"
@@ -381,13 +387,13 @@ fn writes_the_other_types_with_nulls(rt: HostRuntime) -> Result<(), Fail> {
         ColumnKind::Int96,
         &[1, 2, 3, 4, 5, 6, 7, 8, 9, 10, 11, 12],
     )?;
-    let first = written(alloc, old, 0, 1)?;
+    let first = written_and_read(alloc, old, 0, 1)?;
     assert_eq!(rt;
         first.as_str(),
         "[2, 0, 0, 0, 3, 1, 1, 2, 3, 4, 5, 6, 7, 8, 9, 10, 11, 12] Bytes([1, 2, 3, 4, 5, 6, 7, 8, 9, 10, 11, 12]);"
     );
     let fixed = around_a_null(alloc, ColumnKind::Fixed(3), &[1, 2, 3])?;
-    let whole = written(alloc, fixed, 0, 3)?;
+    let whole = written_and_read(alloc, fixed, 0, 3)?;
     assert_eq!(rt;
         whole.as_str(),
         "[2, 0, 0, 0, 3, 5, 1, 2, 3, 1, 2, 3] Bytes([1, 2, 3]);Null;Bytes([1, 2, 3]);"
@@ -427,7 +433,7 @@ fn a_page_of_each_type_is_read_back(rt: HostRuntime) -> Result<(), Fail> {
         }
         let mut body = Bytes::new(rt.alloc());
         write_page(&table, column, 0, table.rows(), &mut body)?;
-        let read = told(rt.alloc(), table.spec(column), 3, 0, None, body.as_slice())?;
+        let read = cells_or_error(rt.alloc(), table.spec(column), 3, 0, None, body.as_slice())?;
         let cells = column_shown(rt.alloc(), &table, column)?;
         assert_eq!(rt; read.as_str(), cells.as_str());
     }

@@ -1,3 +1,4 @@
+// Tests of table_text.
 ghost use Rattle.std.specs.Prelude.{◌≡◌, ◌<◌, length, IfOk};
 ghost use Rattle.std.specs.List.{AllByRecursion};
 ghost use Rattle.plain_pages.specs.Columns.{rows_of};
@@ -11,8 +12,8 @@ use table_text::{
     CellTexts, Choice, TableRefusal, cell_text, generate, header_text, row_text, table_from_csv,
 };
 
-// A text, where `/` stands for a line feed, `^` for a carriage return, `~` for the byte 0xff and `{}|` for a byte order
-// mark, and behind a space what it is read as.
+// Each case: a text, a space, and the cells or the error that it is read as. In the text `/` stands for a line feed, `^` for
+// a carriage return, `~` for the byte 0xff, and `{}|` for a byte order mark.
 const CASES: &str = r#"
 id:int64,name:text?,secret:bytes/1,ann,00ff/2,\N,/3,,ab/4,"a,b",cd Int64(1);Bytes([97,110,110]);Bytes([0,255]);Int64(2);Null;Bytes([]);Int64(3);Bytes([]);Bytes([171]);Int64(4);Bytes([97,44,98]);Bytes([205]);
 id:int64,name:text?,secret:bytes/1,ann 1,3
@@ -118,7 +119,7 @@ a:int32??/ 0,0
 a/ 0,0
 "#;
 
-// Texts that are written as they stand.
+// Texts that are written back unchanged after they have been read.
 const TEXTS: [&str; 6] = [
     "id:int64,name:text?,secret:bytes\n1,ann,00ff\n2,\\N,\n3,,ab\n4,\"a,b\",cd\n",
     "a:int32\n",
@@ -128,7 +129,7 @@ const TEXTS: [&str; 6] = [
     "a:bool?,b:int32?,c:int64?,d:int96?,e:float?,f:double?,g:bytes?,h:text?,i:fixed(3)?\n\\N,\\N,\\N,\\N,\\N,\\N,\\N,\\N,\\N\ntrue,-2147483648,-9223372036854775808,000102030405060708090a0b,7f800000,fff0000000000000,00ff,\\\\x,00000a\nfalse,2147483647,9223372036854775807,ffffffffffffffffffffffff,00000000,0000000000000001,,,ffffff\n",
 ];
 
-// The table of seed 11, worked out by another program.
+// The table of seed 11, computed by an independent program.
 const GENERATED: &str = "id:int64,flag:bool?,city:text?,amount:int32,blob:bytes\n\
     0,true,city-436,-403927,02b62624\n\
     1,true,city-697,179966,1003af91\n\
@@ -153,7 +154,7 @@ fn shown(alloc: Global, table: &Table) -> Result<String, AllocError> {
 fn bytes_of(alloc: Global, case: &str) -> Result<Vec<u8>, AllocError> {
     let mut bytes = Vec::new(alloc);
     for byte in case.bytes() {
-        let told = match byte {
+        let meant = match byte {
             b'/' => b'\n',
             b'^' => b'\r',
             b'~' => 0xff,
@@ -162,14 +163,15 @@ fn bytes_of(alloc: Global, case: &str) -> Result<Vec<u8>, AllocError> {
             b'|' => 0xbf,
             other => other,
         };
-        if bytes.push(told).is_err() {
+        if bytes.push(meant).is_err() {
             return Err(AllocError);
         }
     }
     Ok(bytes)
 }
 
-fn told(alloc: Global, case: &str) -> Result<String, AllocError> {
+/// The cells of a table, or the place of its first bad field.
+fn cells_or_error(alloc: Global, case: &str) -> Result<String, AllocError> {
     let text = bytes_of(alloc, case)?;
     if text.len() > 268_435_456 {
         return Err(AllocError);
@@ -182,10 +184,10 @@ fn told(alloc: Global, case: &str) -> Result<String, AllocError> {
 }
 
 #[test]
-fn reads_tables_or_tells_the_first_bad_field(rt: HostRuntime) -> Result<(), Fail> {
+fn reads_tables_or_reports_the_first_bad_field(rt: HostRuntime) -> Result<(), Fail> {
     for line in CASES.lines() {
         if let Some((case, expected)) = line.rsplit_once(' ') {
-            let got = told(rt.alloc(), case)?;
+            let got = cells_or_error(rt.alloc(), case)?;
             let bare = got.replace(rt.alloc(), ' ', "")?;
             assert_eq!(rt; bare.as_str(), expected);
         }
@@ -304,7 +306,7 @@ fn writes_cells(rt: HostRuntime) -> Result<(), Fail> {
     Ok(())
 }
 
-// The cells of a record, and its text.
+// Each case: the cells of a record, and its text.
 const RECORDS: &[(&[&[u8]], &[u8])] = &[
     (&[b""], b"\"\"\n"),
     (&[b"a", b"", b"b c"], b"a,,b c\n"),

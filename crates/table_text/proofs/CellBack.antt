@@ -1,4 +1,4 @@
--- What a cell is written as is read back as the cell.
+-- The text of a cell is read back as the same cell.
 use Rattle.std.proofs.Common.{◌≡◌, ◌==◌, ℕ, zero, suc, ◌^◌, ◌<◌, ◌≤◌, ◌/◌, ◌%◌, Bool, true, false, not, ◌||◌, ◌⊎◌, inl, inr, List, [], ◌∷◌, length, get_or, Some, ℤ, pos, negsuc, neg_ℤ, refl, ap, arith}
 use Rattle.std.proofs.lemmas.Bool.{and_from, cases_Bool, eq-eqb, eqb-true, lt-ltb, ne_eqb}
 use Rattle.std.proofs.lemmas.Fmt.{decimal_digit, decimal_is_IsNumeral, first_decimal}
@@ -18,7 +18,7 @@ use Rattle.parquet_types.specs.declared.column.ColumnKind.TheVariants.{Boolean, 
 use Rattle.parquet_types.specs.declared.column.ColumnSpec.{ColumnSpec}
 use Rattle.plain_pages.specs.Cells.{Cell, null, bool, int32, int64, bytes}
 use Rattle.plain_pages.specs.Columns.{IsCellOf, IsValueOf}
-use Rattle.table_text.specs.Cells.{cell_read, hex_read, null_text, sized_read, text_read, truth_read, value_of_kind}
+use Rattle.table_text.specs.Cells.{cell_read, hex_read, null_text, hex_of_size_read, text_read, truth_read, value_of_kind}
 use Rattle.table_text.specs.Numbers.{begins_with_zero, is_decimal, is_plain, number_read}
 use Rattle.table_text.specs.ReadingBack.{AreSpelled, IsSpelled}
 use Rattle.table_text.specs.Texts.{bytes_text, cell_text, escaped}
@@ -30,7 +30,7 @@ or_false : (a b : Bool) → (a || b) ≡ false → (a ≡ false) × (b ≡ false
 or_false true b e = cc e
 or_false false b e = (refl, e)
 
--- what stands at a place of a list passes no test that none of the list passes
+-- an item of a list fails a test that no item passes
 none_at : (p : ℕ → Bool) (xs : List ℕ) (i : ℕ) → list_any p xs ≡ false → p 0 ≡ false → p (get_or xs i 0) ≡ false
 none_at p [] i none past = past
 none_at p (x ∷ xs) zero none past = (or_false (p x) (list_any p xs) none).0
@@ -77,7 +77,7 @@ number_back : (w : Width) (n : ℤ) → FitsSigned w n → mag n < 2 ^ 63 → nu
 unfolding number_read
 number_back w n fits small = rw (decimal_back n small, value_back n small, lt-ltb (mag n) (2 ^ hbits w) fits.sfits) refl
 
--- ---- what isn't the text of a null
+-- ---- texts other than `\N`
 not_null : (xs : List ℕ) → (get_or xs 0 0 == 92) ≡ false → bytes_eq xs null_text ≡ false
 not_null [] e = refl
 not_null (x ∷ xs) e = rw e refl
@@ -86,7 +86,7 @@ number_not_null : (n : ℤ) → mag n < 2 ^ 63 → bytes_eq (signed_decimal n) n
 number_not_null (pos n) small = not_null (decimal n) (decimal_first n 92 (omega arith) (inr (omega arith)))
 number_not_null (negsuc n) small = refl
 
--- ---- bytes as digits
+-- ---- hex
 no_digit : (p : ℕ → Bool) (xs : List ℕ) → list_any p lower_digits ≡ false → p 0 ≡ false → list_any p (encode_lower xs) ≡ false
 unfolding encode_with
 no_digit p [] none past = refl
@@ -100,8 +100,8 @@ hex_back xs h = rw (no_digit is_ascii_uppercase xs refl refl, decode_of-encode_l
 hex_not_null : (xs : List ℕ) → bytes_eq (encode_lower xs) null_text ≡ false
 hex_not_null xs = not_null (encode_lower xs) (none_at (λ (c : ℕ). c == 92) (encode_lower xs) 0 (no_digit (λ (c : ℕ). c == 92) xs refl refl) refl)
 
-sized_back : (size : ℕ) (xs : List ℕ) → length xs ≡ size → IsBytes xs → sized_read size (encode_lower xs) ≡ Some xs
-unfolding sized_read
+sized_back : (size : ℕ) (xs : List ℕ) → length xs ≡ size → IsBytes xs → hex_of_size_read size (encode_lower xs) ≡ Some xs
+unfolding hex_of_size_read
 sized_back size xs same h = rw (hex_back xs h, eq-eqb (length xs) size same) refl
 
 -- ---- text
@@ -128,7 +128,7 @@ text_not_null (b ∷ rest) = elim (cases_Bool (b == 92)) [
   | inr other ↦ rw (other, other) refl
 ]
 
--- ---- values by their kind
+-- ---- values by their type
 bytes_back : (kind : ColumnKind) (text : Bool) (xs : List ℕ) → IsValueOf kind (bytes xs) → AreSpelled kind text xs
     → (value_of_kind kind text (bytes_text kind text xs) ≡ Some (bytes xs)) × (bytes_eq (bytes_text kind text xs) null_text ≡ false)
 bytes_back Boolean text xs h s = absurd h

@@ -1,4 +1,4 @@
--- The sizes of what fields spell.
+-- Lemmas about the sizes of the values in fields, and about hex and UTF-8.
 use Rattle.std.proofs.Common.{zero, suc, Result, MatchResult, false, is_err, ap, sym, ◌≡◌, ◌==◌, ◌/◌, ℕ, ◌≤◌, Option, Some, None, Ok, Err, List, [], ◌∷◌, true, drop, length, get_or, refl, ◌∙◌, arith, rules, inl, inr}
 use Rattle.std.proofs.lemmas.Bool.{and_parts, cases_Bool, eqb-true, ltb-true}
 use Rattle.std.proofs.lemmas.List.{length-drop}
@@ -15,17 +15,17 @@ use Rattle.parquet_types.specs.declared.column.ColumnKind.{ColumnKind}
 use Rattle.parquet_types.specs.declared.column.ColumnKind.TheVariants.{Boolean, Int32, Int64, Int96, Float, Double, ByteArray, Fixed}
 use Rattle.plain_pages.specs.Cells.{bytes}
 use Rattle.plain_pages.specs.Columns.{IsValueOf}
-use Rattle.table_text.specs.Cells.{IsOfSize, hex_read, of_size, sized_read, text_read}
+use Rattle.table_text.specs.Cells.{IsOfSize, hex_read, of_size, hex_of_size_read, text_read}
 
 ok_found : (r : Result (List ℕ) FromHexError) (xs : List ℕ) → result_ok r ≡ Some xs → r ≡ Ok xs
 ok_found (Ok ys) xs e = let same : ys ≡ xs = cc e in rw same refl
 ok_found (Err w) xs e = cc e
 
--- decoding into room for half as many bytes is decoding
+-- decoding hex into a buffer of half the length is the whole decoding
 pub sized_whole : (field : List ℕ) → decode_sized field (length field / 2) ≡ decode_of field
 sized_whole field = let same : (length field / 2 == length field / 2) ≡ true = grind arith in rw same refl
 
--- what decoding left in its room, where it answered well
+-- the contents of the buffer after a successful decoding
 pub decoded : (r : Result (List ℕ) FromHexError) (answer : Result (Unit {0}) FromHexError) (after : List ℕ)
     → MatchResult r (λ xs. (answer ≡ Ok tt) × (after ≡ xs)) (λ e. answer ≡ Err e) → is_err answer ≡ false → result_ok r ≡ Some after
 decoded (Ok xs) answer after m good = ap Some (sym m.1)
@@ -40,7 +40,7 @@ hex_size field xs n e small = elim (cases_Bool (list_any is_ascii_uppercase fiel
       omega arith
 ]
 
--- a field without a byte spells no byte
+-- an empty field is the hex of no bytes
 pub hex_of_empty : (field : List ℕ) → (length field == 0) ≡ true → hex_read field ≡ Some field
 unfolding hex_read encode_with
 hex_of_empty [] e = rw (decode_of-encode_lower [] (search rules)) refl
@@ -76,8 +76,8 @@ value_of_size Double size xs h e = e ∙ h
 value_of_size ByteArray size xs h e = absurd h
 value_of_size (Fixed n) size xs h e = e ∙ h
 
-pub sized_value : (kind : ColumnKind) (size : ℕ) (field xs : List ℕ) → IsOfSize size kind → sized_read size field ≡ Some xs → IsValueOf kind (bytes xs)
-unfolding sized_read
+pub sized_value : (kind : ColumnKind) (size : ℕ) (field xs : List ℕ) → IsOfSize size kind → hex_of_size_read size field ≡ Some xs → IsValueOf kind (bytes xs)
+unfolding hex_of_size_read
 sized_value kind size field xs h e = value_of_size kind size xs h (of_size_is size (hex_read field) xs e)
 
 -- ---- text
@@ -86,6 +86,6 @@ all_ascii [] e i = omega arith
 all_ascii (x ∷ xs) e zero = ltb-true _ _ (and_parts _ _ e).0
 all_ascii (x ∷ xs) e (suc i) = all_ascii xs (and_parts _ _ e).1 i
 
--- ASCII is text
+-- ASCII is UTF-8
 pub ascii_text : (xs : List ℕ) → list_all is_ascii xs ≡ true → is_utf8 xs ≡ true
 ascii_text xs e = is_utf8-from_IsUtf8 xs (IsUtf8-from_ascii xs (all_ascii xs e))

@@ -1,4 +1,4 @@
--- Rows that are drawn, one at a time.
+-- Lemmas about appending one generated row.
 use Rattle.std.proofs.Common.{◌≡◌, List, [], ◌∷◌, ◌++◌, map, length, refl, sym, ap, ◌∙◌}
 use Rattle.std.proofs.Common.{◌≢◌, ◌==◌, ℕ, false, slice_index, lit<, lit≤}
 use Rattle.std.proofs.lemmas.Bool.{eqb-false}
@@ -9,7 +9,7 @@ use Rattle.plain_pages.specs.ColumnSpecs.{IsColumnSpec}
 use Rattle.plain_pages.specs.Columns.{AreNamed, IsTable}
 use Rattle.parquet_types.specs.declared.column.ColumnSpec.{ColumnSpec}
 use Rattle.table_text.specs.declared.generated.Draws.{Draws}
-use Rattle.table_text.specs.Generated.{AreGenerated, amount_cell, amount_spec, blob_cell, blob_spec, city_cell, city_spec, column_of, columns_of, flag_cell, flag_spec, id_cell, id_spec, listed, with_row}
+use Rattle.table_text.specs.Generated.{AreGenerated, amount_cell, amount_spec, blob_cell, blob_spec, city_cell, city_spec, column_of, columns_of, flag_cell, flag_spec, id_cell, id_spec, column_list, with_row}
 use Rattle.table_text.specs.Tables.{with_cell}
 use Rattle.table_text.proofs.CellLemmas.{ascii_text}
 
@@ -43,11 +43,11 @@ amount_named = record { name = record { not_empty = lit< tt; utf8 = ascii_text (
 pub blob_named : IsColumnSpec blob_spec
 blob_named = record { name = record { not_empty = lit< tt; utf8 = ascii_text (codes "blob") refl; short = lit≤ tt }; word = tt }
 
--- names that begin with different bytes
+-- names that begin with different bytes are different
 differ : (xs ys : List ℕ) → (slice_index xs 0 == slice_index ys 0) ≡ false → xs ≢ ys
 differ xs ys e same = eqb-false (slice_index xs 0) (slice_index ys 0) e (ap (λ (t : List ℕ). slice_index t 0) same)
 
-are_named : (rows : List Draws) → AreNamed (listed (columns_of rows))
+are_named : (rows : List Draws) → AreNamed (column_list (columns_of rows))
 are_named rows =
     let from_blob : AreNamed ((columns_of rows).blob ∷ []) =
     (blob_named, tt, tt) in
@@ -61,5 +61,5 @@ are_named rows =
     (id_named, (differ (codes "flag") (codes "id") refl, (differ (codes "city") (codes "id") refl, (differ (codes "amount") (codes "id") refl, (differ (codes "blob") (codes "id") refl, tt)))), from_flag) in
     from_id
 
-pub are_even : (rows : List Draws) → IsTable (listed (columns_of rows))
+pub are_even : (rows : List Draws) → IsTable (column_list (columns_of rows))
 are_even rows = record { even = (refl, (even rows _ _, (even rows _ _, (even rows _ _, (even rows _ _, tt))))); named = are_named rows }

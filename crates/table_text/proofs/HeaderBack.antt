@@ -1,4 +1,4 @@
--- What a header names a column is read back.
+-- The heading of a column is read back as its name and type.
 use Rattle.std.proofs.Common.{◌≡◌, ◌==◌, ℕ, ◌+◌, ◌-◌, ◌≤◌, Bool, true, false, Option, List, [], ◌∷◌, ◌++◌, take, drop, length, get_or, Some, None, refl, sym, ap, arith, ◌∙◌, append_assoc, append-nil}
 use Rattle.std.proofs.lemmas.Bool.{le-leb, ne_eqb}
 use Rattle.std.proofs.lemmas.Fmt.{decimal_is_IsNumeral}
@@ -12,7 +12,7 @@ use Rattle.parquet_types.specs.declared.column.ColumnKind.{ColumnKind}
 use Rattle.parquet_types.specs.declared.column.ColumnKind.TheVariants.{Boolean, Int32, Int64, Int96, Float, Double, ByteArray, Fixed}
 use Rattle.parquet_types.specs.declared.column.ColumnSpec.{ColumnSpec}
 use Rattle.table_text.specs.declared.column_type.ColumnType.{ColumnType}
-use Rattle.table_text.specs.Headers.{behind, heading_read, is_name, last_colon}
+use Rattle.table_text.specs.Headers.{last_colon_step, heading_read, is_name, last_colon}
 use Rattle.plain_pages.specs.ColumnSpecs.{HasWord}
 use Rattle.table_text.specs.ReadingBack.{IsNameable, type_of}
 use Rattle.table_text.specs.Texts.{heading_text, kind_text}
@@ -26,7 +26,7 @@ front : (xs : List ℕ) (c : ℕ) → take (length (xs ++ c ∷ []) - 1) (xs ++ 
 front xs c = take_at xs (c ∷ []) (length (xs ++ c ∷ []) - 1) (omega (arith, length-append xs (c ∷ [])))
 
 -- ---- colons
-behind_none : (colon : Bool) (place : Option ℕ) → behind colon place ≡ None → (colon ≡ false) × (place ≡ None)
+behind_none : (colon : Bool) (place : Option ℕ) → last_colon_step colon place ≡ None → (colon ≡ false) × (place ≡ None)
 behind_none colon (Some p) e = cc e
 behind_none true None e = cc e
 behind_none false None e = (refl, refl)

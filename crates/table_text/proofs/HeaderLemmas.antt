@@ -1,4 +1,4 @@
--- The loops over a header.
+-- Lemmas about the loops over a header.
 use Rattle.std.proofs.Common.{Result, Ok, add-one, append_assoc, sym, Err, ◌≡◌, ◌==◌, ℕ, zero, suc, ◌+◌, ◌<◌, ◌≤◌, Bool, true, false, cond, Option, Some, None, List, [], ◌∷◌, ◌++◌, take, drop, length, get_or, refl, ap, ◌∙◌, arith, inl, inr}
 use Rattle.std.specs.Prelude.{IfSome, if◌then◌else◌}
 use Rattle.std.proofs.lemmas.Bool.{cases_Bool}
@@ -8,7 +8,7 @@ use Rattle.std.specs.Option.{option_map}
 use Rattle.csv.specs.Records.{field_at}
 use Rattle.pme_base.specs.Steps.{◌>>=◌}
 use Rattle.plain_pages.specs.Columns.{Column}
-use Rattle.table_text.specs.Headers.{Names, behind, columns_read, empty_column, last_colon, new_heading, with_heading}
+use Rattle.table_text.specs.Headers.{Names, last_colon_step, columns_read, empty_column, last_colon, new_heading, with_heading}
 
 colon_push : (xs : List ℕ) (b : ℕ) → last_colon (xs ++ b ∷ []) ≡ cond (b == 58) (Some (length xs)) (last_colon xs)
 colon_push [] b = elim (cases_Bool (b == 58)) [ inl yes58 ↦ rw yes58 refl | inr no58 ↦ rw no58 refl ]
@@ -35,7 +35,7 @@ field_found [] i field e = cc e
 field_found (f ∷ fields) zero field e = let same : f ≡ field = cc e in ap (λ (t : List ℕ). t ∷ fields) same
 field_found (f ∷ fields) (suc i) field e = field_found fields i field e
 
-behind_inside : (colon : Bool) (place : Option ℕ) (n : ℕ) → IfSome place (λ p. p < n) → IfSome (behind colon place) (λ p. p < suc n)
+behind_inside : (colon : Bool) (place : Option ℕ) (n : ℕ) → IfSome place (λ p. p < n) → IfSome (last_colon_step colon place) (λ p. p < suc n)
 behind_inside colon (Some p) n h = omega arith
 behind_inside true None n h = omega arith
 behind_inside false None n h = tt
@@ -47,7 +47,7 @@ colon_found (b ∷ rest) = behind_inside (b == 58) (last_colon rest) (length res
 pub colon_inside : (field : List ℕ) (place : Option ℕ) → place ≡ last_colon field → IfSome place (λ p. p < length field)
 colon_inside field place is = rw is (colon_found field)
 
--- columns before what the others give
+-- columns in front of the columns of the remaining fields
 abbrev pub onto : List Column → Result (List Column) ℕ → Result (List Column) ℕ
 onto done (Ok columns) = Ok (done ++ columns)
 onto done (Err field) = Err field
@@ -56,7 +56,7 @@ onto_more : (done : List Column) (new : Column) (rest : Result (List Column) ℕ
 onto_more done new (Ok columns) = ap Ok (sym (append_assoc done (new ∷ []) columns))
 onto_more done new (Err field) = refl
 
--- one more field of a header
+-- one step of the loop over the fields of a header
 pub column_step : (place : ℕ) (columns more : List Column) (earlier later : Names) (fields : List (List ℕ)) (field : List ℕ) → field_at fields place ≡ Some field
     → option_map (with_heading columns earlier) (new_heading earlier field) ≡ Some (more, later)
     → onto columns (columns_read place earlier (drop place fields)) ≡ onto more (columns_read (place + 1) later (drop (place + 1) fields))

@@ -1,4 +1,4 @@
--- The columns that a header names are columns of a table.
+-- The columns of a valid header are columns of a table: their descriptions are valid and their names are different.
 use Rattle.std.proofs.Common.{◌≡◌, ◌≢◌, ◌==◌, ℕ, ◌+◌, ◌-◌, ◌≤◌, nat_le, Bool, true, false, ◌&&◌, ◌||◌, not, Option, Some, None, Ok, Err, List, [], ◌∷◌, take, drop, length, slice_index, refl, sym, ap, ◌∙◌, subst, arith}
 use Rattle.std.specs.Prelude.{if◌then◌else◌, codes}
 use Rattle.std.specs.Cmp.Lexicographic.{slice_cmp, nat_list_cmp_total}
@@ -122,7 +122,7 @@ new_head earlier field head e =
     record { read = read ∙ ap Some same; fresh = ap (λ (h : Heading). contains earlier h.0) (sym same) ∙ fresh }))
 
 -- ---- columns
--- columns of names that none before has
+-- columns with names that no earlier column has
 abbrev AreFresh : Names → List Column → Type 0
 AreFresh earlier columns = AllByRecursion (λ (column : Column). contains earlier column.spec.name ≡ false) columns
 
@@ -146,7 +146,7 @@ others earlier name (column ∷ columns) h =
     let rest = others earlier name columns h.1 in
     ((first.0, rest.0), (first.1, rest.1))
 
--- the columns that a header gives
+-- the columns of a valid header
 pub record AreHeaded (earlier : Names) (columns : List Column) : Type 0 where
   pub empty : AreOfLength 0 columns
   pub named : AreNamed columns

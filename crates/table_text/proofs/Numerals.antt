@@ -1,4 +1,4 @@
--- Numbers that are read digit by digit.
+-- Lemmas about parsing a number digit by digit.
 use Rattle.std.proofs.Common.{to_z, of_z, ◌≡◌, ◌==◌, ℕ, ◌+◌, ◌-◌, ◌*◌, ◌^◌, ◌<◌, ◌≤◌, true, false, ◌&&◌, inl, inr, List, [], ◌∷◌, length, get_or, take, Bool, Option, Some, None, ℤ, pos, neg_ℤ, refl, sym, ap, arith, rules, take_all, ◌∙◌}
 use Rattle.std.proofs.Math.Bool.{and-false}
 use Rattle.std.proofs.lemmas.Bool.{and_parts, and_from, cases_Bool, eqb-true, ltb-true, ltb-false, leb-true, lt-ltb, le-ltb}
@@ -27,7 +27,7 @@ pub bad_front : (ds : List ℕ) → front_is_plain ds ≡ false → None ≡ pla
 unfolding is_plain
 bad_front ds bad = rw (bad, and-false (list_all is_ascii_digit ds)) refl
 
--- a digit's value
+-- the value of a digit
 digit_code : (d : ℕ) → is_ascii_digit d ≡ true → digit_value d ≡ d - 48
 digit_code d digit =
     let range : (nat_le 48 d ≡ true) × (nat_le d 57 ≡ true) = and_parts _ _ digit in
@@ -37,7 +37,7 @@ more_value : (ds : List ℕ) (i : ℕ) → i < length ds → is_ascii_digit (get
     → digits_value 10 (take (i + 1) ds) ≡ digits_value 10 (take i ds) * 10 + (get_or ds i 0 - 48)
 more_value ds i inside digit = digits_value_more 10 ds i inside ∙ ap (λ d. digits_value 10 (take i ds) * 10 + d) (digit_code _ digit)
 
--- a digit that can't be added, so that the whole is no number of 64 bits
+-- if a digit overflows 64 bits or isn't a digit, the whole is not a number below 2^64
 pub no_more : (ds : List ℕ) (i : ℕ) → i < length ds → with_digit (digits_value 10 (take i ds)) (get_or ds i 0) ≡ None → None ≡ plain_read ds
 unfolding is_plain
 no_more ds i inside refused = elim (cases_Bool (is_ascii_digit (get_or ds i 0))) [
@@ -51,7 +51,7 @@ no_more ds i inside refused = elim (cases_Bool (is_ascii_digit (get_or ds i 0)))
   | inr other ↦ rw (false_and _ (front_is_plain ds) (list_all_at is_ascii_digit ds i 0 inside other)) refl
 ]
 
--- one digit more
+-- one step of the loop over the digits
 pub one_more : (ds : List ℕ) (i next : ℕ) → i < length ds → with_digit (digits_value 10 (take i ds)) (get_or ds i 0) ≡ Some next
     → list_all is_ascii_digit (take i ds) ≡ true → (list_all is_ascii_digit (take (i + 1) ds) ≡ true) × (next ≡ digits_value 10 (take (i + 1) ds)) × (next < 2 ^ 64)
 one_more ds i next inside added before = elim (cases_Bool (is_ascii_digit (get_or ds i 0))) [
@@ -64,7 +64,7 @@ one_more ds i next inside added before = elim (cases_Bool (is_ascii_digit (get_o
   | inr other ↦ cc (rw other at added)
 ]
 
--- all digits
+-- the whole loop
 pub all_read : (ds : List ℕ) (n value : ℕ) → length ds ≤ n → front_is_plain ds ≡ true → list_all is_ascii_digit (take n ds) ≡ true
     → value ≡ digits_value 10 (take n ds) → value < 2 ^ 64 → Some value ≡ plain_read ds
 unfolding is_plain
@@ -95,7 +95,7 @@ digits-plain : (ds : List ℕ) → is_plain ds ≡ true → list_all is_ascii_di
 unfolding is_plain
 digits-plain ds plain = (and_parts _ _ plain).0
 
--- digits begin with no plus
+-- digits don't begin with `+`
 no_plus : (ds : List ℕ) → is_plain ds ≡ true → (get_or ds 0 0 == 43) ≡ false
 no_plus [] plain = refl
 no_plus (d ∷ ds) plain = elim (cases_Bool (d == 43)) [
@@ -120,7 +120,7 @@ too_long : (w : Width) (n : ℕ) → 2 ^ hbits w ≤ 2 ^ 63 → 2 ^ 64 ≤ n →
 too_long w zero few large = absurd (omega arith)
 too_long w (suc n) few large = (le-ltb (suc n) (2 ^ hbits w) (omega arith), le-ltb n (2 ^ hbits w) (omega arith))
 
--- what is read of a field is the number that it spells
+-- a number that is parsed from a field is the number that the field stands for
 number_some : (w : Width) (field : List ℕ) (n : ℤ) → decimal_read field ≡ Some n → number_read w field ≡ when_fits w n
 unfolding number_read is_decimal decimal_read
 number_some w field n e = elim (cases_Bool (get_or field 0 0 == 45)) [
@@ -139,7 +139,7 @@ number_some w field n e = elim (cases_Bool (get_or field 0 0 == 45)) [
       spelled ∙ ap (when_fits w) (ap (λ (v : ℕ). pos v) (sym value) ∙ same)
 ]
 
--- where no number is read, the field spells none of a type of 64 bits or fewer
+-- if no number is parsed, the field doesn't stand for a number of a type with 64 bits or fewer
 pub number_none : (w : Width) (field : List ℕ) → 2 ^ hbits w ≤ 2 ^ 63 → decimal_read field ≡ None → None ≡ number_read w field
 unfolding number_read is_decimal decimal_read
 number_none w field few e = elim (cases_Bool (get_or field 0 0 == 45)) [
@@ -163,7 +163,7 @@ when_number w n (Err e) h = elim (cases_Bool (fits w n)) [
   | inr large ↦ rw large refl
 ]
 
--- a number that is read, as a type has it
+-- a parsed number, converted to the type
 pub number_fits : {E : Type 0} (w : Width) (field : List ℕ) (n : ℤ) (r : Result ℤ E) → decimal_read field ≡ Some n → FitsSigned w128 n
     → OkIff r (FitsSigned w (to_z w128 (of_z w128 n))) (to_z w128 (of_z w128 n)) → result_ok r ≡ number_read w field
 number_fits w field n r e long h = when_number w n r (rw (to_z-of_z w128 n long) at h) ∙ sym (number_some w field n e)

@@ -1,4 +1,4 @@
--- The records of a text, one at a time.
+-- Lemmas about reading the records of a text one by one.
 use Rattle.std.proofs.Common.{Bor, add-one, ◌≡◌, ℕ, zero, suc, ◌+◌, ◌<◌, ◌≤◌, true, false, Some, None, List, [], ◌∷◌, ◌++◌, length, refl, sym, ap, ◌∙◌, arith, inl, inr}
 use Rattle.std.proofs.lemmas.Bool.{cases_Bool}
 use Rattle.std.proofs.lemmas.List.{length-append}
@@ -17,7 +17,7 @@ use Rattle.table_text.specs.Records.{AreShort, IsOutside, IsReading, SliceReader
 some_same : (x y : Read) → Some x ≡ Some y → x ≡ y
 some_same x y e = cc e
 
--- what the end of the text ends
+-- the record that ends at the end of the text
 at_end : (s : State) (fields : List (List ℕ)) (field : List ℕ) (p : Read) → next_record default_config s fields field [] ≡ Some p
     → (p.0 ≡ fields ++ field ∷ []) × (p.1 ≡ st.StartRecord) × (p.2 ≡ [])
 unfolding next_record
@@ -28,7 +28,7 @@ at_end s fields field p e = elim (cases_Bool (ends_at_end s)) [
   | inr on ↦ cc (rw on at e)
 ]
 
--- what a byte that ends a record leaves
+-- the record and the rest of the text at a byte that ends a record
 at_byte : (s : State) (fields : List (List ℕ)) (field : List ℕ) (c : ℕ) (rest : List ℕ) (p : Read) → is_end (step default_config s c).1 ≡ true
     → next_record default_config s fields field (c ∷ rest) ≡ Some p → (p.0 ≡ fields_after (step default_config s c).1 fields field) × (p.2 ≡ rest)
 unfolding next_record
@@ -36,14 +36,14 @@ at_byte s fields field c rest p end e =
     let same = sym (some_same (fields_after (step default_config s c).1 fields field, (step default_config s c).0, rest) p (rw end at e)) in
     (ap (λ (q : Read). q.0) same, ap (λ (q : Read). q.2) same)
 
--- a byte that ends none
+-- a byte that doesn't end a record
 past_byte : (s : State) (fields : List (List ℕ)) (field : List ℕ) (c : ℕ) (rest : List ℕ) → is_end (step default_config s c).1 ≡ false
     → next_record default_config s fields field (c ∷ rest)
     ≡ next_record default_config (step default_config s c).0 (fields_after (step default_config s c).1 fields field) (field_after (step default_config s c).1 c field) rest
 unfolding next_record
 past_byte s fields field c rest on = rw on refl
 
--- what follows a record is shorter than the text that it begins
+-- the rest of the text after a record is shorter than the text
 shorter : (rest : List ℕ) (c : ℕ) (s : State) (fields : List (List ℕ)) (field : List ℕ) (p : Read)
     → next_record default_config s fields field (c ∷ rest) ≡ Some p → length p.2 ≤ length rest
 shorter [] c s fields field p e = elim (cases_Bool (is_end (step default_config s c).1)) [
@@ -57,7 +57,7 @@ shorter (d ∷ rest) c s fields field p e = elim (cases_Bool (is_end (step defau
       omega arith
 ]
 
--- more turns than bytes give the same records
+-- a bound above the number of bytes gives the same records
 none_left : (n : ℕ) → records_from default_config n st.StartRecord [] ≡ []
 unfolding records_from next_record
 none_left zero = refl
@@ -80,7 +80,7 @@ enough (suc n) (suc m) s (c ∷ rest) a b =
           ap (λ (t : List (List (List ℕ))). p.0 ∷ t) (enough n m p.1 p.2 (omega arith) (omega arith))
     ] refl
 
--- the records from a record on
+-- the records of a text are its next record and the records of the rest
 pub next_left : (s : State) (xs : List ℕ) (p : Read) → next_record default_config s [] [] xs ≡ Some p
     → records_left s (Some xs) ≡ p.0 ∷ records_left p.1 (Some p.2)
 unfolding records_left records_from
@@ -96,7 +96,7 @@ pub end_left : (s : State) (xs : List ℕ) → next_record default_config s [] [
 unfolding records_left records_from
 end_left s xs e = rw (add-one, e) refl
 
--- no field is longer than the text
+-- a field is at most as long as the text
 abbrev AreAtMost : ℕ → List (List ℕ) → Type 0
 AreAtMost n fields = AllByRecursion (λ (field : List ℕ). length field ≤ n) fields
 
@@ -121,7 +121,7 @@ at_most (c ∷ rest) n s fields field p e h small =
       | inr on ↦ at_most rest n _ _ _ p (sym (past_byte s fields field c rest on) ∙ e) after.0 after.1
     ]
 
--- a read that found a record
+-- the effect of a read that found a record
 pub record Took (old new : SliceReader) (fields : List (List ℕ)) : Type 0 where
   pub next : to_come old ≡ fields ∷ to_come new
   pub reading : IsReading new
@@ -155,7 +155,7 @@ took old new fields h ready lengths r =
 pub ended : (old new : SliceReader) (fields : List (List ℕ)) → IsReading old → ReadRecord (λ s. Some s.now) old new false fields → to_come old ≡ []
 ended old new fields h r = rw h.left_is (end_left old.state h.left (rows-end (λ (s : Bor (List ℕ)). Some s.now) old new fields default_config h.left h.config h.left_is r))
 
--- why a read of a slice fails
+-- the possible errors of a read from a slice
 pub outside : (old new : SliceReader) (kind : ErrorKind) → IsReading old → ExplainsRead (λ s. Some s.now) old new false kind → IsOutside kind
 outside old new (error.Io e) h why = tt
 outside old new error.OutOfMemory h why = tt

@@ -1,4 +1,4 @@
--- A table is read back from the text of its header and its rows.
+-- The text of a table is read back as the same table.
 use Rattle.std.proofs.Common.{◌≡◌, ℕ, zero, suc, ◌+◌, ◌<◌, List, [], ◌∷◌, ◌++◌, map, take, length, get_or, Some, None, Ok, refl, sym, ap, arith, ◌∙◌}
 use Rattle.std.proofs.lemmas.Bool.{eq-eqb}
 use Rattle.std.proofs.lemmas.List.{length-map, take_all, take_more}
@@ -49,7 +49,7 @@ rows_some zero row columns some = tt
 rows_some (suc rows) row columns some = (rw (length-map columns _) some, rows_some rows (row + 1) columns some)
 
 -- ---- rows
--- the first cells of a column, and of all
+-- the first cells of a column, and of all columns
 abbrev first : ℕ → Column → Column
 first n column = record { spec = column.spec; cells = take n column.cells }
 

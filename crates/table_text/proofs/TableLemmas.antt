@@ -1,4 +1,4 @@
--- Rows of a table, one cell and one record at a time.
+-- Lemmas about appending one cell and one record to the columns of a table.
 use Rattle.std.proofs.Common.{subst, Result, add-one, Ok, Err, ◌≡◌, ◌≢◌, ◌==◌, map, ℕ, zero, suc, ◌+◌, ◌<◌, ◌≤◌, Some, None, List, [], ◌∷◌, ◌++◌, take, drop, set, length, get_or, Option, refl, sym, ap, ◌∙◌, arith, append_assoc, inl, inr}
 use Rattle.std.specs.Option.{option_map}
 use Rattle.std.proofs.Math.Seq.{drop-cons}
@@ -16,7 +16,7 @@ use Rattle.table_text.proofs.HeaderSpecs.{header_columns}
 use Rattle.table_text.specs.Cells.{cell_read}
 use Rattle.table_text.specs.Headers.{columns_read}
 use Rattle.table_text.specs.Records.{AreShort}
-use Rattle.table_text.specs.Tables.{IsRecordRefusalOf, IsRefusalOf, at_entry, at_field, before, cell_added, in_record, row_added, row_read, rows_added, with_cell, Spot}
+use Rattle.table_text.specs.Tables.{IsRecordRefusalOf, IsRefusalOf, at_entry, at_field, prepend_column, cell_added, in_record, row_added, row_read, rows_added, with_cell, Spot}
 use Rattle.table_text.specs.declared.from_csv.TableRefusal.{TableRefusal}
 use Rattle.table_text.specs.declared.from_csv.TableRefusal.TheVariants.{Bad, OutOfMemory as NoMemory}
 use Rattle.table_text.specs.declared.refusals.FieldRefusal.{FieldRefusal}
@@ -24,7 +24,7 @@ use Rattle.table_text.specs.declared.refusals.FieldRefusal.TheVariants.{Bad as F
 use Rattle.table_text.specs.declared.refusals.RecordRefusal.{RecordRefusal}
 use Rattle.table_text.specs.declared.refusals.RecordRefusal.TheVariants.{BadField, OutOfMemory as RecordMemory}
 
-before_some : (place : ℕ) (done : List Column) (new : Column) (rest : Result (List Column) ℕ) → onto done (before place (Some new) rest) ≡ onto (done ++ new ∷ []) rest
+before_some : (place : ℕ) (done : List Column) (new : Column) (rest : Result (List Column) ℕ) → onto done (prepend_column place (Some new) rest) ≡ onto (done ++ new ∷ []) rest
 before_some place done new (Ok columns) = ap Ok (sym (append_assoc done (new ∷ []) columns))
 before_some place done new (Err field) = refl
 
@@ -52,7 +52,7 @@ pub refused_in : (answer : Result (List Column) ℕ) (error : RecordRefusal) (en
 refused_in answer (BadField field) entry h = rw h refl
 refused_in answer RecordMemory entry h = tt
 
--- all columns keep one length, and their specs
+-- appending a record keeps the lengths of the columns equal, and their descriptions unchanged
 abbrev specs_of : List Column → List ColumnSpec
 specs_of columns = map (λ (column : Column). column.spec) columns
 
@@ -64,9 +64,9 @@ grown_row : (n place : ℕ) (columns more : List Column) (fields : List (List �
 grown_row n place [] more fields h long e = let same : [] ≡ more = cc e in rw (← same) (tt, refl)
 grown_row n place (c ∷ cs) more [] h long e = absurd (omega (arith, long))
 grown_row n place (c ∷ cs) more (f ∷ fs) h long e =
-    elim (cell_read c.spec f) as (λ o. before place (option_map (with_cell c) o) (row_added (place + 1) cs fs) ≡ Ok more → Grown (n + 1) (c ∷ cs) more) [
+    elim (cell_read c.spec f) as (λ o. prepend_column place (option_map (with_cell c) o) (row_added (place + 1) cs fs) ≡ Ok more → Grown (n + 1) (c ∷ cs) more) [
       | None ↦ λ no_cell. cc no_cell
-      | Some x ↦ λ found. elim (row_added (place + 1) cs fs) as (λ r. row_added (place + 1) cs fs ≡ r → before place (Some (with_cell c x)) r ≡ Ok more → Grown (n + 1) (c ∷ cs) more) [
+      | Some x ↦ λ found. elim (row_added (place + 1) cs fs) as (λ r. row_added (place + 1) cs fs ≡ r → prepend_column place (Some (with_cell c x)) r ≡ Ok more → Grown (n + 1) (c ∷ cs) more) [
         | Ok rest ↦ λ is whole.
             let same : with_cell c x ∷ rest ≡ more = cc whole in
             let grown = grown_row n (place + 1) cs rest fs h.1 (omega (arith, long)) is in
@@ -122,7 +122,7 @@ whole_table fields rows columns more short header added =
     let grown = grown_rows rows 0 1 columns more headed.empty added in
     record { even = one_length grown.0 more grown.1.0; named = named_as columns more (sym grown.1.1) headed.named }
 
--- a record that is added
+-- one step of the loop over the records
 pub rows_step : (entry : ℕ) (columns more : List Column) (row : List (List ℕ)) (all rest : List (List (List ℕ))) → all ≡ row ∷ rest
     → row_read entry columns row ≡ Ok more → rows_added entry columns all ≡ rows_added (entry + 1) more rest
 rows_step entry columns more row all rest is read = rw is (ap (λ (r : Result (List Column) Spot). r >>= λ (next : List Column). rows_added (entry + 1) next rest) read)
@@ -138,7 +138,7 @@ short_at [] i field h e = cc e
 short_at (f ∷ fields) zero field h e = let same : f ≡ field = cc e in rw (← same) h.0
 short_at (f ∷ fields) (suc i) field h e = short_at fields i field h.1 e
 
--- a cell of a table is one of its column's
+-- a cell of a table is a cell of its column
 pub cell_fits : (column : Option Column) (spec : ColumnSpec) (cell : Cell) → option_map (λ (c : Column). c.spec) column ≡ Some spec
     → ((c : Column) → column ≡ Some c → IsCellOf c.spec cell) → IsCellOf spec cell
 cell_fits None spec cell e h = cc e

@@ -1,4 +1,5 @@
--- The table of a seed: each row is worked out from four words of PCG32, so that it is the same wherever it is made.
+-- The table that is generated from a seed. Each row is made from four words of PCG32, so that it is the same on every
+-- machine.
 use Rattle.std.specs.Prelude.{◌≡◌, ℕ, zero, suc, ◌%◌, ◌==◌, ℤ, pos, ◌-ℤ◌, Bool, true, false, if◌then◌else◌, List, [], ◌∷◌, ◌++◌, map, codes}
 use Rattle.std.specs.Fmt.{decimal}
 use Rattle.std.specs.Int.{w32, to_be_bytes}
@@ -13,56 +14,59 @@ use Rattle.table_text.specs.declared.generated.Columns.{Columns}
 use Rattle.table_text.specs.declared.generated.Draws.{Draws}
 use Rattle.table_text.specs.Tables.{with_cell}
 
--- the next word of a generator, and the generator behind it
+-- the next word of a generator, and the generator's state after it
 unfoldable pub word : Lcg → ℕ
 word generator = (pcg32 generator).0
 
 unfoldable pub later : Lcg → Lcg
 later generator = (pcg32 generator).1
 
--- the generator of a seed, on the first stream behind stream 0
+-- the generator with state `seed` and stream 1
 unfoldable pub seeded : ℕ → Lcg
 seeded seed = started 64 multiplier_64 seed (increment_of 64 1)
 
--- a row's number and its words
+-- a row: its number and its four words
 unfoldable pub row_at : ℕ → Lcg → Draws
 row_at number g = record { number = number; first = word g; second = word (later g); third = word (later (later g)); fourth = word (later (later (later g))) }
 
-unfoldable pub behind_row : Lcg → Lcg
-behind_row g = later (later (later (later g)))
+-- the generator's state after the four words of a row
+unfoldable pub state_after_row : Lcg → Lcg
+state_after_row g = later (later (later (later g)))
 
--- the generator behind so many rows
-abbrev pub behind_rows : ℕ → Lcg → Lcg
-behind_rows zero g = g
-behind_rows (suc rows) g = behind_row (behind_rows rows g)
+-- the generator's state after `rows` rows
+abbrev pub state_after_rows : ℕ → Lcg → Lcg
+state_after_rows zero g = g
+state_after_rows (suc rows) g = state_after_row (state_after_rows rows g)
 
--- so many rows, the first of which has the number 0
+-- the first `rows` rows, numbered from 0
 abbrev pub rows_drawn : ℕ → Lcg → List Draws
 rows_drawn zero g = []
-rows_drawn (suc rows) g = rows_drawn rows g ++ row_at rows (behind_rows rows g) ∷ []
+rows_drawn (suc rows) g = rows_drawn rows g ++ row_at rows (state_after_rows rows g) ∷ []
 
 -- ---- cells
+-- column `id`: the number of the row
 abbrev pub id_of : ℕ → Cell
 id_of number = int64 (pos number)
 
--- null in one row of eight, else whether the word is odd
+-- column `flag`: null if the word is a multiple of 8, otherwise whether it is odd
 abbrev pub flag_of : ℕ → Cell
 flag_of word = if word % 8 == 0 then null else bool (word % 2 == 1)
 
 abbrev pub city_text : ℕ → List ℕ
 city_text word = codes "city-" ++ decimal (word % 1000)
 
--- null in one row of sixteen, else one of a thousand cities
+-- column `city`: null if the word is a multiple of 16, otherwise `city-` and a number below 1,000
 abbrev pub city_of : ℕ → Cell
 city_of word = if word % 16 == 0 then null else bytes (city_text word)
 
--- from -1,000,000 to 1,000,000
+-- column `amount`: -1,000,000 to 1,000,000
 abbrev pub amount_in : ℕ → ℤ
 amount_in word = pos (word % 2000001) -ℤ pos 1000000
 
 abbrev pub amount_of : ℕ → Cell
 amount_of word = int32 (amount_in word)
 
+-- column `blob`: the four bytes of the word, big-endian
 abbrev pub blob_of : ℕ → Cell
 blob_of word = bytes (to_be_bytes w32 word)
 
@@ -115,7 +119,7 @@ columns_of rows = record {
   blob = column_of blob_spec blob_cell rows;
 }
 
--- columns of these specs, whatever their cells
+-- the columns have the descriptions above, with any cells
 pub record AreGenerated (columns : Columns) : Type 0 where
   pub id : columns.id.spec ≡ id_spec
   pub flag : columns.flag.spec ≡ flag_spec
@@ -123,6 +127,7 @@ pub record AreGenerated (columns : Columns) : Type 0 where
   pub amount : columns.amount.spec ≡ amount_spec
   pub blob : columns.blob.spec ≡ blob_spec
 
+-- the columns with the cells of one more row
 abbrev pub with_row : Columns → Draws → Columns
 with_row columns row = record {
   id = with_cell columns.id (id_cell row);
@@ -132,9 +137,9 @@ with_row columns row = record {
   blob = with_cell columns.blob (blob_cell row);
 }
 
-abbrev pub listed : Columns → List Column
-listed columns = columns.id ∷ columns.flag ∷ columns.city ∷ columns.amount ∷ columns.blob ∷ []
+abbrev pub column_list : Columns → List Column
+column_list columns = columns.id ∷ columns.flag ∷ columns.city ∷ columns.amount ∷ columns.blob ∷ []
 
--- the table of a seed with so many rows
+-- the table with `rows` rows that is generated from a seed
 abbrev pub generated : ℕ → ℕ → List Column
-generated seed rows = listed (columns_of (rows_drawn rows (seeded seed)))
+generated seed rows = column_list (columns_of (rows_drawn rows (seeded seed)))

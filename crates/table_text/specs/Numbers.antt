@@ -1,4 +1,4 @@
--- Whole numbers in decimal, as cells and type names spell them: each number in one way.
+-- Decimal integers in cells and type names. Each number has exactly one spelling.
 use Rattle.std.specs.Prelude.{ℕ, ◌+◌, ◌-◌, ◌*◌, ◌^◌, nat_lt, ℤ, pos, neg_ℤ, Bool, not, ◌&&◌, ◌||◌, ◌==◌, if◌then◌else◌, List, drop, length, slice_index, Option, Some, None, option_map}
 use Rattle.std.specs.List.{list_all}
 use Rattle.std.specs.Char.{is_ascii_digit}
@@ -10,43 +10,43 @@ use mir.Val.{hbits}
 abbrev pub begins_with_zero : List ℕ → Bool
 begins_with_zero digits = slice_index digits 0 == 48
 
--- something, and no zero before something else
+-- the field isn't empty and has no leading zero, except `0` itself
 abbrev pub front_is_plain : List ℕ → Bool
 front_is_plain digits = not (length digits == 0) && (not (begins_with_zero digits) || (length digits == 1))
 
--- digits, with no zero before another digit
+-- an unsigned decimal number without a leading zero
 unfoldable pub is_plain : List ℕ → Bool
 is_plain digits = list_all is_ascii_digit digits && front_is_plain digits
 
--- such digits, or `-` before such digits that don't begin with a zero
+-- a signed decimal number: an unsigned one, or `-` and an unsigned one that doesn't begin with 0
 unfoldable pub is_decimal : List ℕ → Bool
 is_decimal field = if slice_index field 0 == 45 then not (begins_with_zero (drop 1 field)) && is_plain (drop 1 field) else is_plain field
 
--- whether a signed type has a number: `mag` is n for n and for -(n + 1)
+-- whether a number fits in a signed type; `mag` of n and of -(n + 1) is n
 abbrev pub fits : Width → ℤ → Bool
 fits w number = nat_lt (mag number) (2 ^ hbits w)
 
 abbrev pub when_fits : Width → ℤ → Option ℤ
 when_fits w number = if fits w number then Some number else None
 
--- the number that a field spells, if a signed type has it
+-- the number in a field, if it is valid and fits in a signed type
 unfoldable pub number_read : Width → List ℕ → Option ℤ
 number_read w field = if is_decimal field then when_fits w (signed_digits_value 10 field) else None
 
--- ---- how a number is read
--- a number of 64 bits
+-- ---- steps of the parser
+-- a number below 2^64
 abbrev pub when_long : ℕ → Option ℕ
 when_long n = if nat_lt n (2 ^ 64) then Some n else None
 
--- the number whose digits are those of `value` and one more
+-- `value` with one more digit at the end, if the result is below 2^64
 abbrev pub with_digit : ℕ → ℕ → Option ℕ
 with_digit value digit = if is_ascii_digit digit then when_long (value * 10 + (digit - 48)) else None
 
--- the number that plain digits write, if it has 64 bits
+-- the unsigned number in these digits, if it is valid and below 2^64
 abbrev pub plain_read : List ℕ → Option ℕ
 plain_read digits = if is_plain digits then when_long (digits_value 10 digits) else None
 
--- the number that a field spells, if its digits have 64 bits
+-- the signed number in a field, if it is valid and its absolute value is below 2^64
 unfoldable pub decimal_read : List ℕ → Option ℤ
 decimal_read field =
     if slice_index field 0 == 45

@@ -1,4 +1,4 @@
--- The records of a text, by the state machine of `csv` without headers.
+-- The records of a CSV text, defined by the state machine of the `csv` crate without headers.
 use Rattle.std.specs.Prelude.{◌≡◌, ℕ, ◌+◌, ◌≤◌, List, [], length, true, ⊤, Option, Some, None}
 use Rattle.std.specs.List.{AllByRecursion}
 use denote.Ref.{Bor}
@@ -9,11 +9,11 @@ use Rattle.csv.specs.declared.parser.State.{State}
 use Rattle.csv.specs.declared.reader.Reader.{Reader}
 use Rattle.csv.specs.declared.reader.Trim.TheVariants as trim
 
--- the records of a text, without a byte order mark at its front; lines without a byte are none
+-- the records of a text after an optional byte order mark; empty lines are no records
 unfoldable pub records_of : List ℕ → List (List (List ℕ))
 records_of text = records default_config (strip_bom text)
 
--- the records of what is left of a text, from a state
+-- the records of the rest of a text, from a state of the machine; none if there is no rest
 unfoldable pub records_left : State → Option (List ℕ) → List (List (List ℕ))
 records_left state None = []
 records_left state (Some rest) = records_from default_config (length rest + 1) state rest
@@ -21,18 +21,19 @@ records_left state (Some rest) = records_from default_config (length rest + 1) s
 abbrev pub SliceReader : Type 0
 SliceReader = Reader (Bor (List ℕ))
 
+-- the bytes that a reader has not read yet
 abbrev pub left_of : SliceReader → Option (List ℕ)
 left_of reader = source_of (λ s. Some s.now) reader
 
--- the records that a reader has still to give
+-- the records that a reader has not given yet
 abbrev pub to_come : SliceReader → List (List (List ℕ))
 to_come reader = records_left reader.state (left_of reader)
 
--- the most bytes that a table's text has
+-- the size limit of a table's text, in bytes
 abbrev pub table_limit : ℕ
 table_limit = 268435456
 
--- a reader that gives records as they stand
+-- a reader with the default configuration, which neither trims fields nor checks that records have equal lengths
 pub record IsReading (reader : SliceReader) : Type 0 where
   pub ready : Ready reader
   pub trim : reader.trim ≡ trim.None
@@ -42,11 +43,11 @@ pub record IsReading (reader : SliceReader) : Type 0 where
   pub left_is : left_of reader ≡ Some left
   pub small : length left ≤ table_limit
 
--- no field is longer than a table's text may be
+-- no field is longer than the size limit
 abbrev pub AreShort : List (List ℕ) → Type 0
 AreShort fields = AllByRecursion (λ (field : List ℕ). length field ≤ table_limit) fields
 
--- a failure of memory, or of what is read from
+-- an error of the allocator or of the underlying reader
 abbrev pub IsOutside : ErrorKind → Type 0
 IsOutside (Io e) = ⊤
 IsOutside OutOfMemory = ⊤

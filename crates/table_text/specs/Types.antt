@@ -1,4 +1,4 @@
--- The types of columns as a table's header names them.
+-- The column types that a table's header can name.
 use Rattle.std.specs.Prelude.{ℕ, ◌-◌, nat_le, Bool, true, false, ◌&&◌, ◌==◌, if◌then◌else◌, List, take, drop, length, slice_index, codes, Option, Some, None, option_map}
 use Rattle.std.specs.Str.{bytes_eq}
 use Rattle.std.specs.Str.Parse.{digits_value}
@@ -10,20 +10,21 @@ use Rattle.table_text.specs.Numbers.{is_plain}
 abbrev pub column_type : Bool → Bool → ColumnKind → ColumnType
 column_type optional text kind = record { kind = kind; optional = optional; text = text }
 
--- the bytes of a fixed type: 1 to 65,536
+-- a valid size of a fixed type: 1 to 65,536 bytes
 abbrev pub when_size : ℕ → Option ℕ
 when_size size = if nat_le 1 size && nat_le size 65536 then Some size else None
 
+-- the size that decimal digits stand for
 unfoldable pub size_read : List ℕ → Option ℕ
 size_read digits = if is_plain digits then when_size (digits_value 10 digits) else None
 
--- the size between `fixed(` and `)`
+-- the size in `fixed(SIZE)`
 unfoldable pub fixed_read : List ℕ → Option ℕ
 fixed_read word =
     if bytes_eq (take 6 word) (codes "fixed(") && (slice_index word (length word - 1) == 41)
     then size_read (drop 6 (take (length word - 1) word)) else None
 
--- the type that a word names
+-- the type with this name, without `?`
 unfoldable pub type_named : Bool → List ℕ → Option ColumnType
 type_named optional word =
     if bytes_eq word (codes "bool") then Some (column_type optional false Boolean)
@@ -36,7 +37,7 @@ type_named optional word =
     else if bytes_eq word (codes "text") then Some (column_type optional true ByteArray)
     else option_map (λ size. column_type optional false (Fixed size)) (fixed_read word)
 
--- the same, and `?` behind it where the column may hold nulls
+-- the type with this name; a trailing `?` makes the column OPTIONAL
 unfoldable pub type_read : List ℕ → Option ColumnType
 type_read word =
     if slice_index word (length word - 1) == 63 then type_named true (take (length word - 1) word) else type_named false word

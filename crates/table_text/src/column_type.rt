@@ -1,11 +1,11 @@
-// The types of columns, as a table's header names them.
+// The column types that a table's header can name.
 ghost use Rattle.std.specs.Prelude.{◌≡◌};
 ghost use Rattle.table_text.specs.Types as types;
 
 use crate::numbers::plain_read;
 use parquet_types::ColumnKind;
 
-/// What a column's type says: its physical type, whether nulls may stand in it, and whether its bytes are text.
+/// A column's type: its physical type, whether it may hold nulls, and whether its byte arrays are text.
 #[derive(Clone, Copy, Debug, PartialEq, Eq, Drop)]
 pub struct ColumnType {
     pub kind: ColumnKind,
@@ -13,7 +13,7 @@ pub struct ColumnType {
     pub text: bool,
 }
 
-/// The type that a word names, with `?` behind it where the column may hold nulls.
+/// Parses the name of a type; a trailing `?` makes the column OPTIONAL.
 #[tactic(auto, unfolding(crate::specs::Types::type_read))]
 pub fn type_read(word: &[u8]) -> Option<ColumnType>
     ensures { result ≡ types.type_read word.now }
@@ -24,6 +24,7 @@ pub fn type_read(word: &[u8]) -> Option<ColumnType>
     }
 }
 
+/// Parses the name of a type without `?`.
 #[tactic(auto, unfolding(crate::specs::Types::type_named))]
 fn type_named(optional: bool, word: &[u8]) -> Option<ColumnType>
     ensures { result ≡ types.type_named optional word.now }
@@ -60,7 +61,7 @@ fn column_type(optional: bool, text: bool, kind: ColumnKind) -> ColumnType
     }
 }
 
-/// The size between `fixed(` and `)`.
+/// Parses `fixed(SIZE)` and gives the size.
 #[tactic(auto, unfolding(crate::specs::Types::fixed_read))]
 fn fixed_read(word: &[u8]) -> Option<u32>
     ensures { result ≡ types.fixed_read word.now }
@@ -71,6 +72,7 @@ fn fixed_read(word: &[u8]) -> Option<u32>
     size_read(&word[6..word.len() - 1])
 }
 
+/// Parses a size of 1 to 65,536 in decimal.
 #[tactic(auto, unfolding(crate::specs::Types::size_read))]
 fn size_read(digits: &[u8]) -> Option<u32>
     ensures { result ≡ types.size_read digits.now }

@@ -1,4 +1,4 @@
-// Tables that are worked out from a seed.
+// Tables that are generated from a seed.
 ghost use Rattle.std.specs.Prelude.{◌≡◌, ◌<◌, ◌≤◌, [], length, IfOk, OnOk};
 ghost use Rattle.plain_pages.specs.ColumnSpecs.{IsColumnSpec};
 ghost use Rattle.plain_pages.specs.Columns.{IsTable};
@@ -12,7 +12,7 @@ use rand_core::utils::NextWord;
 use rand_pcg::Pcg32;
 use std::alloc::Global;
 
-/// What is drawn for a row, and its number.
+/// The number of a row and the four random words from which its cells are made.
 #[derive(Clone, Copy, Debug, PartialEq, Eq, Drop)]
 struct Draws {
     number: u64,
@@ -32,8 +32,8 @@ struct Columns {
     blob: TableColumn,
 }
 
-/// The table of a seed: columns of each shape, with nulls, texts and bytes, worked out from the words of PCG32 with
-/// this state and stream 1. There are at most 1,000,000 rows.
+/// Generates a table with `rows` rows, at most 1,000,000, from the words of PCG32 with state `seed` and stream 1. Its
+/// five columns have numbers, booleans, text, bytes and nulls.
 pub fn generate(alloc: Global, seed: u64, rows: u64) -> Result<Table, OutOfMemory>
     requires { rows ≤ 1000000 }
     ensures { IfOk result (λ table. table ≡ generated.generated seed rows) }
@@ -42,11 +42,13 @@ pub fn generate(alloc: Global, seed: u64, rows: u64) -> Result<Table, OutOfMemor
     table_of(alloc, columns)
 }
 
+/// Generates the columns with all their cells.
 #[tactic(auto, using(crate::proofs::DrawLemmas::row_more, crate::proofs::DrawLemmas::are_generated, crate::proofs::DrawLemmas::are_even))]
 fn columns_drawn(alloc: Global, seed: u64, rows: u64) -> Result<Columns, OutOfMemory>
     requires { rows ≤ 1000000 }
-    ensures columns { IfOk result (λ columns. columns ≡ generated.columns_of (generated.rows_drawn rows (generated.seeded seed))) }
-    ensures even { IfOk result (λ columns. IsTable (generated.listed columns)) }
+    ensures columns { IfOk result (λ columns. columns ≡ generated.columns_of
+        (generated.rows_drawn rows (generated.seeded seed))) }
+    ensures even { IfOk result (λ columns. IsTable (generated.column_list columns)) }
 {
     let mut columns = Columns::new(alloc)?;
     let mut generator = seeded(seed);
@@ -61,8 +63,8 @@ fn columns_drawn(alloc: Global, seed: u64, rows: u64) -> Result<Columns, OutOfMe
 }
 
 fn table_of(alloc: Global, columns: Columns) -> Result<Table, OutOfMemory>
-    requires { IsTable (generated.listed columns) }
-    ensures { IfOk result (λ table. table ≡ generated.listed columns) }
+    requires { IsTable (generated.column_list columns) }
+    ensures { IfOk result (λ table. table ≡ generated.column_list columns) }
 {
     let mut table = Table::new(alloc);
     table.add(columns.id)?;
@@ -87,12 +89,12 @@ fn next_word(generator: &mut Pcg32) -> u32
     generator.next_word()
 }
 
-/// Draws the words of a row.
-#[tactic(auto, unfolding(crate::specs::Generated::row_at, crate::specs::Generated::behind_row))]
+/// Draws the four words of a row from the generator.
+#[tactic(auto, unfolding(crate::specs::Generated::row_at, crate::specs::Generated::state_after_row))]
 fn draw(generator: &mut Pcg32, number: u64) -> Draws
     ensures drawn { result ≡ generated.row_at number generator.old }
     ensures number { result.number ≡ number }
-    ensures behind { generator.new ≡ generated.behind_row generator.old }
+    ensures state { generator.new ≡ generated.state_after_row generator.old }
 {
     let first = next_word(generator);
     let second = next_word(generator);
@@ -108,6 +110,7 @@ fn draw(generator: &mut Pcg32, number: u64) -> Draws
 }
 
 impl Columns {
+    /// The columns without cells.
     fn new(alloc: Global) -> Result<Columns, OutOfMemory>
         ensures { IfOk result (λ columns. columns ≡ generated.columns_of []) }
     {
@@ -120,7 +123,7 @@ impl Columns {
         })
     }
 
-    /// Adds the cells of a row.
+    /// Appends the cells of a row.
     fn push(&mut self, alloc: Global, row: Draws) -> Result<(), OutOfMemory>
         requires specs { generated.AreGenerated self.old }
         requires few { row.number < 1000000 }
@@ -135,6 +138,7 @@ impl Columns {
     }
 }
 
+/// A column without cells.
 fn empty(
     alloc: Global,
     name: &[u8],
@@ -143,7 +147,8 @@ fn empty(
     text: bool,
 ) -> Result<TableColumn, OutOfMemory>
     requires { IsColumnSpec (generated.spec_as name.now kind optional text) }
-    ensures { IfOk result (λ column. column ≡ generated.empty (generated.spec_as name.now kind optional text)) }
+    ensures { IfOk result (λ column. column ≡ generated.empty
+        (generated.spec_as name.now kind optional text)) }
 {
     let spec = ColumnSpec {
         name: Bytes::copy_of(alloc, name)?,
@@ -154,18 +159,20 @@ fn empty(
     Ok(TableColumn::new(alloc, spec))
 }
 
-/// A number of a row, which is less than 1,000,000.
+/// Appends the number of a row.
 fn push_id(column: &mut TableColumn, number: u64) -> Result<(), OutOfMemory>
     requires spec { column.old.spec ≡ generated.id_spec }
     requires few { number < 1000000 }
-    ensures pushed { OnOk result (column.new ≡ tables.with_cell column.old (generated.id_of number)) }
+    ensures pushed { OnOk result (column.new ≡ tables.with_cell column.old
+        (generated.id_of number)) }
 {
     column.push(CellRef::Int64(number as i64))
 }
 
 fn push_flag(column: &mut TableColumn, word: u32) -> Result<(), OutOfMemory>
     requires { column.old.spec ≡ generated.flag_spec }
-    ensures pushed { OnOk result (column.new ≡ tables.with_cell column.old (generated.flag_of word)) }
+    ensures pushed { OnOk result (column.new ≡ tables.with_cell column.old
+        (generated.flag_of word)) }
 {
     if word % 8 == 0 {
         return column.push(CellRef::Null);
@@ -175,7 +182,8 @@ fn push_flag(column: &mut TableColumn, word: u32) -> Result<(), OutOfMemory>
 
 fn push_city(alloc: Global, column: &mut TableColumn, word: u32) -> Result<(), OutOfMemory>
     requires { column.old.spec ≡ generated.city_spec }
-    ensures pushed { OnOk result (column.new ≡ tables.with_cell column.old (generated.city_of word)) }
+    ensures pushed { OnOk result (column.new ≡ tables.with_cell column.old
+        (generated.city_of word)) }
 {
     if word % 16 == 0 {
         return column.push(CellRef::Null);
@@ -196,7 +204,8 @@ fn city_text(alloc: Global, word: u32) -> Result<Bytes, OutOfMemory>
 
 fn push_amount(column: &mut TableColumn, word: u32) -> Result<(), OutOfMemory>
     requires { column.old.spec ≡ generated.amount_spec }
-    ensures pushed { OnOk result (column.new ≡ tables.with_cell column.old (generated.amount_of word)) }
+    ensures pushed { OnOk result (column.new ≡ tables.with_cell column.old
+        (generated.amount_of word)) }
 {
     column.push(CellRef::Int32(amount_of(word)))
 }
@@ -209,7 +218,8 @@ fn amount_of(word: u32) -> i32
 
 fn push_blob(column: &mut TableColumn, word: u32) -> Result<(), OutOfMemory>
     requires { column.old.spec ≡ generated.blob_spec }
-    ensures pushed { OnOk result (column.new ≡ tables.with_cell column.old (generated.blob_of word)) }
+    ensures pushed { OnOk result (column.new ≡ tables.with_cell column.old
+        (generated.blob_of word)) }
 {
     column.push(CellRef::Bytes(&word.to_be_bytes()))
 }

@@ -1,4 +1,4 @@
-// The header of a table.
+// Parsing of a table's header into columns without cells.
 ghost use Rattle.std.specs.Prelude.{◌≡◌, ◌<◌, ◌≤◌, ◌==◌, length, IfSome, if◌then◌else◌, Some, None, true, false, Ok, IfOk, IfErr, option_map};
 ghost use Rattle.std.specs.FinSet.{empty};
 ghost use Rattle.csv.specs.Records.{fields_of};
@@ -17,18 +17,19 @@ use plain_pages::TableColumn;
 use pme_base::{Bytes, NameSet, OutOfMemory};
 use std::alloc::Global;
 
-/// The place of the last colon of a field.
+/// The position of the last colon in a field.
 #[tactic(auto, using(crate::proofs::HeaderLemmas::colon_step))]
 fn last_colon(field: &[u8]) -> Option<usize>
     ensures { result ≡ headers.last_colon field.now }
 {
     let mut last = None;
     for i in 0..field.len() {
-        last = last_of(field[i], i, last);
+        last = last_colon_after(field[i], i, last);
     }
     last
 }
 
+/// The position of the last colon in a field, with the guarantee that it lies inside the field.
 #[tactic(auto, using(crate::proofs::HeaderLemmas::colon_inside))]
 fn colon_place(field: &[u8]) -> Option<usize>
     ensures value { result ≡ headers.last_colon field.now }
@@ -37,13 +38,14 @@ fn colon_place(field: &[u8]) -> Option<usize>
     last_colon(field)
 }
 
-fn last_of(byte: u8, place: usize, last: Option<usize>) -> Option<usize>
+/// The position of the last colon up to and including `place`, where `last` is the last one before `place`.
+fn last_colon_after(byte: u8, place: usize, last: Option<usize>) -> Option<usize>
     ensures { result ≡ (if byte == 58 then Some place else last) }
 {
     if byte == b':' { Some(place) } else { last }
 }
 
-/// The name and the type that a field of a header names.
+/// Parses a field of the header, `name:type`, into the name and the type.
 #[tactic(auto, unfolding(crate::specs::Headers::heading_read))]
 fn heading_read<'a>(field: &'a [u8]) -> Option<(&'a [u8], ColumnType)>
     ensures { option_map (λ h. (h.0.now, h.1)) result ≡ headers.heading_read field.now }
@@ -54,6 +56,7 @@ fn heading_read<'a>(field: &'a [u8]) -> Option<(&'a [u8], ColumnType)>
     }
 }
 
+/// The name and the type of a column, if both are valid.
 fn heading<'a>(name: &'a [u8], column_type: Option<ColumnType>) -> Option<(&'a [u8], ColumnType)>
     ensures { option_map (λ h. (h.0.now, h.1)) result ≡ headers.heading name.now column_type }
 {
@@ -69,6 +72,7 @@ fn heading<'a>(name: &'a [u8], column_type: Option<ColumnType>) -> Option<(&'a [
     }
 }
 
+/// Whether a column may have this name: UTF-8 text that isn't empty.
 #[tactic(auto, unfolding(crate::specs::Headers::is_name))]
 fn is_name(name: &[u8]) -> bool
     ensures { result ≡ headers.is_name name.now }
@@ -94,7 +98,8 @@ fn empty_column(
     Ok(TableColumn::new(alloc, spec))
 }
 
-/// Adds the column that a field of the header names: false where it names none, or one of a name that is there.
+/// Parses a field of the header and appends its column. The result is false if the field is malformed or repeats
+/// the name of an earlier column.
 fn add_column(
     alloc: Global,
     columns: &mut Vec<TableColumn>,
@@ -102,8 +107,11 @@ fn add_column(
     field: &[u8],
 ) -> Result<bool, OutOfMemory>
     requires { length field.now ≤ 268435456 }
-    ensures added { IfOk result (λ good. good ≡ true → option_map (headers.with_heading columns.old.items earlier.old) (headers.new_heading earlier.old field.now) ≡ Some (columns.new.items, earlier.new)) }
-    ensures bad { IfOk result (λ good. good ≡ false → headers.new_heading earlier.old field.now ≡ None) }
+    ensures added { IfOk result (λ good. good ≡ true →
+        option_map (headers.with_heading columns.old.items earlier.old)
+        (headers.new_heading earlier.old field.now) ≡ Some (columns.new.items, earlier.new)) }
+    ensures bad { IfOk result (λ good. good ≡ false →
+        headers.new_heading earlier.old field.now ≡ None) }
 {
     let Some((name, column_type)) = heading_read(field) else {
         return Ok(false);
@@ -119,12 +127,14 @@ fn add_column(
     }
 }
 
-/// The columns that a header names, without cells.
+/// Parses a header into columns without cells. BadField reports the first field that is malformed or repeats a name.
 #[tactic(auto, using(crate::proofs::HeaderLemmas::column_step, crate::proofs::HeaderLemmas::column_bad))]
 pub fn read_header(alloc: Global, names: &ByteRecord) -> Result<Vec<TableColumn>, RecordRefusal>
     requires { AreShort (fields_of names.now) }
-    ensures ok { IfOk result (λ columns. headers.columns_read 0 empty (fields_of names.now) ≡ Ok columns.items) }
-    ensures err { IfErr result (λ e. IsRecordRefusalOf (headers.columns_read 0 empty (fields_of names.now)) e) }
+    ensures ok { IfOk result (λ columns. headers.columns_read 0 empty (fields_of names.now) ≡
+        Ok columns.items) }
+    ensures err { IfErr result
+        (λ e. IsRecordRefusalOf (headers.columns_read 0 empty (fields_of names.now)) e) }
 {
     let mut columns = Vec::new(alloc);
     let mut earlier = NameSet::new(alloc);

@@ -1,4 +1,5 @@
-// Tables as CSV text: the header that names columns and their types, cells by type, and whole tables.
+//! Tables as CSV text: parsing and writing of the header with its column names and types, of cells, and of whole
+//! tables; and tables that are generated from a seed.
 #![tactic(auto)]
 
 mod cells;

@@ -1,9 +1,9 @@
-// Whole numbers in decimal.
+// Parsing of decimal integers.
 ghost use Rattle.std.specs.Prelude.{◌≡◌};
 ghost use Rattle.std.specs.Int.{w32, w64};
 ghost use Rattle.table_text.specs.Numbers as numbers;
 
-/// The number that digits write, with no zero before another digit, if it has 64 bits.
+/// Parses an unsigned decimal number below 2^64, without a leading zero.
 pub fn plain_read(digits: &[u8]) -> Option<u64>
     ensures { result ≡ numbers.plain_read digits.now }
 {
@@ -17,6 +17,7 @@ pub fn plain_read(digits: &[u8]) -> Option<u64>
     Some(value)
 }
 
+/// Whether `digits` isn't empty and has no leading zero; `0` itself is allowed.
 fn front_is_plain(digits: &[u8]) -> bool
     ensures { result ≡ numbers.front_is_plain digits.now }
 {
@@ -29,7 +30,7 @@ fn begins_with_zero(digits: &[u8]) -> bool
     !digits.is_empty() && digits[0] == b'0'
 }
 
-/// The number whose digits are those of `value` and one more, if it has 64 bits.
+/// The number with one more digit at the end of `value`, if it is below 2^64.
 fn with_digit(value: u64, digit: u8) -> Option<u64>
     ensures { result ≡ numbers.with_digit value digit }
 {
@@ -39,7 +40,8 @@ fn with_digit(value: u64, digit: u8) -> Option<u64>
     value.checked_mul(10)?.checked_add(u64::from(digit - b'0'))
 }
 
-/// The number that a field spells, if its digits have 64 bits.
+/// Parses a decimal number with an optional `-`, whose absolute value is below 2^64; neither a leading zero nor `-0` is
+/// valid.
 #[tactic(auto, unfolding(crate::specs::Numbers::decimal_read))]
 fn decimal_read(field: &[u8]) -> Option<i128>
     ensures { result ≡ numbers.decimal_read field.now }
@@ -53,14 +55,14 @@ fn decimal_read(field: &[u8]) -> Option<i128>
     Some(-i128::from(plain_read(&field[1..])?))
 }
 
-/// The number that a field spells, if it has 32 bits.
+/// Parses a decimal number that fits in 32 bits.
 pub fn int32_read(field: &[u8]) -> Option<i32>
     ensures { result ≡ numbers.number_read w32 field.now }
 {
     i32::try_from(decimal_read(field)?).ok()
 }
 
-/// The number that a field spells, if it has 64 bits.
+/// Parses a decimal number that fits in 64 bits.
 pub fn int64_read(field: &[u8]) -> Option<i64>
     ensures { result ≡ numbers.number_read w64 field.now }
 {

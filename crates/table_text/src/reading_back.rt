@@ -1,22 +1,22 @@
-// The laws that what is written is read back.
+// The laws that written cells, headings, records and tables are read back unchanged, each the contract of a function.
 ghost use Rattle.table_text.specs.ReadingBack.{CellsReadBack, HeadingsReadBack, RecordsReadBack, TablesReadBack};
 
-/// The law that the text of a cell is read back as the cell.
+/// The text of a cell is read back as the same cell.
 pub fn cells_are_read_back()
     ensures { CellsReadBack }
 {}
 
-/// The law that what a header names a column is read back as the column's name and type.
+/// The heading of a column is read back as the same name and type.
 pub fn headings_are_read_back()
     ensures { HeadingsReadBack }
 {}
 
-/// The law that the text of a record is read back as its fields, whatever follows it.
+/// The text of a record is read back as the same fields, whatever follows it.
 pub fn records_are_read_back()
     ensures { RecordsReadBack }
 {}
 
-/// The law that a table is read back from its header and a record for each row.
+/// The text of a table, a header and a record for each row, is read back as the same table.
 pub fn tables_are_read_back()
     ensures { TablesReadBack }
 {}

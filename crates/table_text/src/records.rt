@@ -1,4 +1,4 @@
-// The records of a table's text, one after the other.
+// Reading of CSV text record by record, with the `csv` crate.
 ghost use Rattle.std.specs.Prelude.{◌≡◌, ◌<◌, ◌≤◌, ◌∷◌, Some, [], length, true, false, IfOk};
 ghost use Rattle.csv.specs.Records.{field_at, fields_of};
 ghost use Rattle.table_text.specs.Records as records;
@@ -7,7 +7,7 @@ use csv::{ByteRecord, ErrorKind, Reader, ReaderBuilder};
 use pme_base::OutOfMemory;
 use std::alloc::Global;
 
-/// A reader of the records of a text. A byte order mark at its front is passed over.
+/// A reader of the records of a text. It skips a byte order mark at the start.
 pub fn open<'a>(alloc: Global, text: &'a [u8]) -> Reader<&'a [u8]>
     requires { length text.now ≤ 268435456 }
     ensures reading { records.IsReading result }
@@ -19,10 +19,11 @@ pub fn open<'a>(alloc: Global, text: &'a [u8]) -> Reader<&'a [u8]>
         .from_reader(alloc, text)
 }
 
-/// Reads the next record, if there is one.
+/// Reads the next record into `record`; false at the end of the text.
 pub fn read_next(reader: &mut Reader<&[u8]>, record: &mut ByteRecord) -> Result<bool, OutOfMemory>
     requires { records.IsReading reader.old }
-    ensures found { IfOk result (λ found. found ≡ true → records.to_come reader.old ≡ fields_of record.new ∷ records.to_come reader.new) }
+    ensures found { IfOk result (λ found. found ≡ true → records.to_come reader.old ≡
+        fields_of record.new ∷ records.to_come reader.new) }
     ensures end { IfOk result (λ found. found ≡ false → records.to_come reader.old ≡ []) }
     ensures reading { IfOk result (λ found. found ≡ true → records.IsReading reader.new) }
     ensures short { IfOk result (λ found. found ≡ true → records.AreShort (fields_of record.new)) }
@@ -33,8 +34,8 @@ pub fn read_next(reader: &mut Reader<&[u8]>, record: &mut ByteRecord) -> Result<
     }
 }
 
-/// A read from memory fails for want of memory alone. The contract of `csv` leaves room for a reader underneath that
-/// fails, which is told as the same; records of other lengths are no failure.
+/// The error of a read from a slice, which is always OutOfMemory. By its contract `csv` may also report an error of the
+/// underlying reader; a slice has none, so that case gives OutOfMemory too. Records of different lengths are no error.
 fn cause_of(kind: &ErrorKind) -> OutOfMemory
     requires { records.IsOutside kind.now }
 {
@@ -48,7 +49,7 @@ fn cause_of(kind: &ErrorKind) -> OutOfMemory
     }
 }
 
-/// A field of a record.
+/// Field number `i` of a record.
 pub fn field_of<'a>(record: &'a ByteRecord, i: usize) -> &'a [u8]
     requires { i < length (fields_of record.now) }
     ensures { field_at (fields_of record.now) i ≡ Some result.now }

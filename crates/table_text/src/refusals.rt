@@ -1,16 +1,16 @@
-// Why parts of a table are refused.
+// The errors of parsing a field and a record.
 ghost use Rattle.std.specs.Prelude.{◌≡◌};
 
 use pme_base::OutOfMemory;
 
-/// Why a field is no cell of its column.
+/// Why a field can't be parsed as a cell of its column.
 #[derive(Clone, Copy, Debug, PartialEq, Eq, Drop)]
 pub enum FieldRefusal {
     Bad,
     OutOfMemory,
 }
 
-/// Why a record is no row, or no header: the number of its first bad field.
+/// Why a record isn't a valid row or header: the number of its first bad field.
 #[derive(Clone, Copy, Debug, PartialEq, Eq, Drop)]
 pub enum RecordRefusal {
     BadField(u64),

@@ -1,4 +1,4 @@
-// Cells, records and headers as text.
+// Writing of cells, records and headers as CSV text.
 ghost use Rattle.std.specs.Prelude.{◌≡◌, ◌<◌, ◌++◌, length, map, slice_get, codes, if◌then◌else◌, IfOk, OnOk, OnErr};
 ghost use Rattle.std.specs.List.{AllByRecursion};
 ghost use Rattle.csv.specs.Writing.{default_writer, row_text as record_text};
@@ -15,18 +15,18 @@ use plain_pages::CellRef;
 use pme_base::{Bytes, OutOfMemory, Sequence};
 use std::alloc::Global;
 
-/// Numbers of columns.
+/// The chosen columns, as column numbers.
 pub type Choice = Sequence<usize>;
 
-/// The texts of a record's cells.
+/// The texts of the cells of one record.
 pub type CellTexts = Sequence<Bytes>;
 
-/// Adds the text of a cell of a column to the end of `into`: `true` or `false`, a number in decimal, text with one
-/// more backslash where it begins with one, other bytes as lower-case hex, and `\N` for a null. A refusal leaves
-/// `into` unchanged.
+/// Appends the text of a cell to `into`: `true` or `false`, a number in decimal, text with a leading backslash doubled,
+/// other bytes as lower-case hex, and `\N` for a null. An error leaves `into` unchanged.
 pub fn cell_text(spec: &ColumnSpec, cell: CellRef<'_>, into: &mut Bytes) -> Result<(), OutOfMemory>
     requires { IsCellOf spec.now (cell_of cell) }
-    ensures written { OnOk result (into.new ≡ into.old ++ texts.cell_text spec.now (cell_of cell.entry)) }
+    ensures written { OnOk result (into.new ≡ into.old ++ texts.cell_text spec.now
+        (cell_of cell.entry)) }
     ensures unchanged { OnErr result (into.new ≡ into.old) }
 {
     match cell {
@@ -39,7 +39,8 @@ pub fn cell_text(spec: &ColumnSpec, cell: CellRef<'_>, into: &mut Bytes) -> Resu
 }
 
 fn push_truth(value: bool, into: &mut Bytes) -> Result<(), OutOfMemory>
-    ensures written { OnOk result (into.new ≡ into.old ++ (if value then codes "true" else codes "false")) }
+    ensures written { OnOk result (into.new ≡ into.old ++ (if value then codes "true"
+        else codes "false")) }
     ensures unchanged { OnErr result (into.new ≡ into.old) }
 {
     if value {
@@ -57,6 +58,7 @@ fn push_number(number: i64, into: &mut Bytes) -> Result<(), OutOfMemory>
     into.extend(buffer.format(number).as_bytes())
 }
 
+/// Appends a byte array: text for a text column, hex for every other one.
 fn push_bytes(
     kind: ColumnKind,
     text: bool,
@@ -78,6 +80,7 @@ fn push_bytes(
     }
 }
 
+/// Appends text, with a leading backslash doubled.
 fn push_escaped(text: &[u8], into: &mut Bytes) -> Result<(), OutOfMemory>
     ensures written { OnOk result (into.new ≡ into.old ++ texts.escaped text.now) }
     ensures unchanged { OnErr result (into.new ≡ into.old) }
@@ -99,7 +102,7 @@ fn push_hex(bytes: &[u8], into: &mut Bytes) -> Result<(), OutOfMemory>
     into.extend(text.as_bytes())
 }
 
-/// Where the memory of `bytes` comes from.
+/// The allocator of `bytes`.
 fn allocator_of(bytes: &mut Bytes) -> Global
     ensures { bytes.new ≡ bytes.old }
 {
@@ -109,8 +112,8 @@ fn allocator_of(bytes: &mut Bytes) -> Global
     alloc
 }
 
-/// Adds the text of a record to the end of `into`: its cells with commas between them, each in quotes where it needs
-/// them, and a line feed. There is at least one cell. A refusal leaves `into` unchanged.
+/// Appends a record to `into`: its cells, at least one, separated by commas and quoted where necessary, then a line
+/// feed. An error leaves `into` unchanged.
 pub fn row_text(alloc: Global, cells: &CellTexts, into: &mut Bytes) -> Result<(), OutOfMemory>
     requires { 0 < length cells.now }
     ensures written { OnOk result (into.new ≡ into.old ++ record_text default_writer cells.now) }
@@ -124,6 +127,7 @@ pub fn row_text(alloc: Global, cells: &CellTexts, into: &mut Bytes) -> Result<()
     into.extend(writer.get_ref().as_slice())
 }
 
+/// The cells' texts as a list of slices.
 fn fields_of<'a>(alloc: Global, cells: &'a CellTexts) -> Result<Vec<&'a [u8]>, OutOfMemory>
     ensures { IfOk result (λ fields. map (λ field. field.now) fields.items ≡ cells.now) }
 {
@@ -134,8 +138,8 @@ fn fields_of<'a>(alloc: Global, cells: &'a CellTexts) -> Result<Vec<&'a [u8]>, O
     Ok(fields)
 }
 
-/// Adds the header of the chosen columns to the end of `into`: each as `name:type`, with `?` behind it where nulls may
-/// stand. There is at least one, and each is the number of a column. A refusal leaves `into` unchanged.
+/// Appends the header record of the chosen columns to `into`: each as `name:type`, followed by `?` if it is OPTIONAL.
+/// `chosen` has at least one number, each of a column in `schema`. An error leaves `into` unchanged.
 pub fn header_text(
     alloc: Global,
     schema: &FlatSchema,
@@ -144,7 +148,8 @@ pub fn header_text(
 ) -> Result<(), OutOfMemory>
     requires some { 0 < length chosen.now }
     requires inside { AllByRecursion (λ column. column < length schema.now) chosen.now }
-    ensures written { OnOk result (into.new ≡ into.old ++ record_text default_writer (texts.headings schema.now chosen.now)) }
+    ensures written { OnOk result (into.new ≡ into.old ++ record_text default_writer
+        (texts.headings schema.now chosen.now)) }
     ensures unchanged { OnErr result (into.new ≡ into.old) }
 {
     let headings = headings_of(alloc, schema, chosen)?;
@@ -174,7 +179,7 @@ fn heading_of(alloc: Global, schema: &FlatSchema, column: usize) -> Result<Bytes
     }
 }
 
-/// The field of a header that names the column and its type.
+/// The header field of a column: `name:type`, followed by `?` if it is OPTIONAL.
 pub fn heading_text(alloc: Global, spec: &ColumnSpec) -> Result<Bytes, OutOfMemory>
     ensures { IfOk result (λ heading. heading ≡ texts.heading_text spec.now) }
 {
@@ -187,6 +192,7 @@ pub fn heading_text(alloc: Global, spec: &ColumnSpec) -> Result<Bytes, OutOfMemo
     Ok(heading)
 }
 
+/// Appends the name of a type.
 fn push_kind(kind: ColumnKind, text: bool, into: &mut Bytes) -> Result<(), OutOfMemory>
     ensures { OnOk result (into.new ≡ into.old ++ texts.kind_text kind text) }
 {

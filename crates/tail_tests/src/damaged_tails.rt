@@ -1,5 +1,5 @@
-// Files whose tail is damaged in one thing, and what is told of each: the first condition that a file breaks, in the order
-// in which `read_tail` judges it. Beside a refused file stands one that just passes.
+// Files whose tail is damaged in one place, each with its refusal: the first condition that the file breaks, in the order
+// in which `read_tail` checks them. Next to a refused file stands one that just passes.
 use crate::refusing_finder::{KeyFault, RefusingFinder};
 use crate::tail_lines::{file_of, setting, spelled, unknown_setting};
 use footer_modes::{ReadOptions, Tail, read_tail};
@@ -19,7 +19,7 @@ const KEYS: &[u8] =
 //   absent                       no file
 //   encrypted, signed, counter   a file of `sample_files`
 //   bytes=BYTES                  the bytes of a whole file
-//   seal, sign, bare             a file with nothing but the footer of `tail_lines`, which is sealed, signed or neither here
+//   seal, sign, bare             a file that consists of the footer of `tail_lines`: encrypted, signed, or neither
 // and a SETTING one of
 //   @N=BYTES            these bytes stand in the file from offset N on
 //   prefix=BYTES        the reader supplies this prefix
@@ -27,16 +27,15 @@ const KEYS: &[u8] =
 //   allow plain         an unencrypted file is read too
 //   no keys             no key is found
 //   key refused=CAUSE   the finder refuses each key
-//   NAME=BYTES          this part of the sealed or signed footer is another, or left out where BYTES is empty; the parts
-//                       are named in `tail_lines`
-//   footer=BYTES        the whole footer is another
-//   front=BYTES         another FileCryptoMetaData stands before the sealed footer
+//   NAME=BYTES          this part of the footer is replaced, or left out where BYTES is empty; `tail_lines` names the parts
+//   footer=BYTES        the whole footer is replaced
+//   front=BYTES         FileCryptoMetaData is replaced
 //   under=BYTES         the footer is sealed under this prefix
 //
-// ANSWER is a refusal's cause, place, offset and detail; or of a file that is read the footer's mode, the offset of its
-// area, that of its module or its signature, what associated data begin with (- without encryption), and how many columns
-// and rows there are.
-// Another program worked each out from the format's rules; none was taken from what `read_tail` answered.
+// ANSWER is a refusal's cause, place, offset and detail. For a file that is accepted it is the footer's mode, the offset of
+// the footer area, the offset of the module or the signature, the file's part of the associated data (- without
+// encryption), and the numbers of columns and rows. Another program computed each answer from the format's rules; none was
+// taken from what `read_tail` answered.
 const CASES: &str = "\
 # The file's two ends: it is there, has 12 bytes, and its last four bytes and its first are one magic.
 absent: NoFile File 0 Nothing
@@ -369,7 +368,7 @@ fn shown(alloc: Global, read: Result<Tail, Refusal>) -> Result<String, Fail> {
     }
 }
 
-/// What comes of reading the file of a line by this finder.
+/// The answer for the file of a line, read with this key finder.
 fn told_by<K: KeyFinder>(
     alloc: Global,
     line: &str,
@@ -395,7 +394,7 @@ fn told_by<K: KeyFinder>(
     )
 }
 
-/// What comes of reading the file of a line.
+/// The answer for the file of a line.
 fn told(alloc: Global, line: &str) -> Result<String, Fail> {
     let mut files = MemFiles::new(alloc);
     if let Some(file) = file_of(alloc, line)? {

@@ -1,4 +1,4 @@
-// A finder whose service fails, for tests of what is told of such a fault.
+// A key finder whose calls fail, for tests of how such a fault is answered.
 ghost use Rattle.std.specs.Prelude.{◌≡◌, Err, IfOk};
 ghost use Rattle.key_rights.specs.Finding.{KeyFaults};
 ghost use Rattle.key_rights.specs.declared.finder.KeyTrouble.TheVariants as trouble;
@@ -6,14 +6,14 @@ ghost use Rattle.key_rights.specs.declared.finder.KeyTrouble.TheVariants as trou
 use key_rights::{KeyAnswer, KeyFinder, KeyTrouble};
 use std::alloc::Global;
 
-/// A finder whose every call fails, for tests of what stands on finders.
+/// A key finder whose every call fails.
 #[derive(Drop)]
 pub struct FailingFinder {
     faults: u64,
 }
 
 impl FailingFinder {
-    /// A finder that was asked nothing yet.
+    /// A finder before its first call.
     pub fn new() -> FailingFinder
         ensures { result.faults ≡ 0 }
     {

@@ -1,4 +1,4 @@
-// What is told where reading or a finder of keys fails, and the metadata of the footer's key.
+// Failing reads and key finders are answered as faults; and the metadata of the footer key.
 use crate::failing_finder::FailingFinder;
 use crate::sample_files::{COUNTER, ENCRYPTED, SIGNED, bytes_of};
 use crate::tail_lines::spelled;

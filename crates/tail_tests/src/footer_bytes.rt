@@ -1,4 +1,4 @@
-// The bytes that a tail keeps: those of its footer, and of FileCryptoMetaData in front of an encrypted one.
+// `Tail::footer_bytes` holds the bytes of the footer, and `Protection::crypto_bytes` those of FileCryptoMetaData.
 use crate::tail_lines::{file_of, spelled};
 use footer_modes::{ReadOptions, Tail, read_tail};
 use key_rights::IdKeys;
@@ -9,7 +9,7 @@ use std::test::Fail;
 
 const KEYS: &[u8] = br#"{"kf":"000102030405060708090a0b0c0d0e0f"}"#;
 
-// A footer of one INT64 column without row groups, and how it is signed.
+// A footer of one INT64 column without row groups, and the same footer with an algorithm.
 const FOOTER: &str = "1502 192c 4806736368656d61150200 15042500180161 00 1600 190c 00";
 
 const SIGNED: &str =

@@ -1,5 +1,5 @@
-//! Tests of the tail of a file, read and written. They have a crate of their own, so that `footer_modes` isn't proved again
-//! for them.
+//! Tests of reading and writing the tail of a file. They have a crate of their own, so that `footer_modes` isn't proved a
+//! second time for them.
 #![tactic(auto)]
 
 #[cfg(test)]

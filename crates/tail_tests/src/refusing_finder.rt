@@ -1,4 +1,4 @@
-// A finder that refuses every key, for tests of what is told of a refused key.
+// A key finder that refuses every key, for tests of how a refused key is answered.
 ghost use Rattle.std.specs.Prelude.{◌≡◌, IfOk};
 ghost use Rattle.pme_base.specs.declared.refusal.Detail.TheVariants.{Name};
 ghost use Rattle.tail_tests.specs.Refusing.{refused_for};
@@ -47,7 +47,7 @@ fn named(alloc: Global, name: &[u8]) -> Result<Detail, OutOfMemory>
     Ok(Detail::Name(Bytes::copy_of(alloc, name)?))
 }
 
-/// A finder that refuses every key for one fault.
+/// A key finder that refuses every key for one reason.
 #[derive(Drop)]
 pub struct RefusingFinder {
     pub fault: KeyFault,

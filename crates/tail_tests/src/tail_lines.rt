@@ -1,4 +1,4 @@
-// The lines of a table of files: which file a line names, what is done to it, and with what it is read.
+// Parsing the lines of `damaged_tails`: the file that a line names, and what is changed in it.
 use crate::sample_files::{COUNTER, ENCRYPTED, SIGNED, bytes_of};
 use aes_block::AesKey;
 use footer_modes::{write_encrypted_tail, write_signed_tail};
@@ -7,7 +7,7 @@ use pme_base::Bytes;
 use std::alloc::Global;
 use std::test::Fail;
 
-// What the tests seal and sign with; the key is `kf`.
+// The key `kf`, `aad_file_unique` and the nonce of the files that the tests make.
 const KEY: [u8; 16] = [0, 1, 2, 3, 4, 5, 6, 7, 8, 9, 10, 11, 12, 13, 14, 15];
 
 const UNIQUE: [u8; 8] = [0, 1, 2, 3, 4, 5, 6, 7];
@@ -43,7 +43,7 @@ second_group=193c 00 8c1c000000 00 2604 4402 00
 creator=2803706d65
 ";
 
-// What a signed footer has before its end: AES_GCM_V1, UNIQUE, and the key's metadata `kf`.
+// The last fields of a signed footer: AES_GCM_V1, UNIQUE, and the key's metadata `kf`.
 const SIGNING: &str = "\
 algorithm=2c1c2808 0001020304050607 0000
 metadata=18026b66
@@ -60,7 +60,7 @@ fn split_setting(word: &str) -> (&str, &str) {
     word.trim().split_once('=').unwrap_or((word.trim(), ""))
 }
 
-/// The value of a setting of a line, where the line has it; the empty text where it has no value.
+/// The value of a setting of a line: None if the line lacks the setting, an empty text if the setting has no value.
 pub(crate) fn setting<'a>(line: &'a str, name: &str) -> Option<&'a str> {
     for word in line.split(',') {
         let (found, value) = split_setting(word);
@@ -95,7 +95,7 @@ pub(crate) fn unknown_setting(line: &str) -> Option<&str> {
     None
 }
 
-/// Appends these bytes `count` times; a long run of one byte at once.
+/// Appends these bytes `count` times, a single byte in one step.
 fn push_times(alloc: Global, bytes: &mut Bytes, part: &[u8], count: usize) -> Result<(), Fail> {
     if let [byte] = part {
         let mut run = Vec::new(alloc);
@@ -138,7 +138,7 @@ pub(crate) fn spelled(alloc: Global, text: &str) -> Result<Bytes, Fail> {
     Ok(bytes)
 }
 
-/// Appends parts of a footer, those of the line in place of the usual ones.
+/// Appends parts of a footer; a part that the line sets replaces the usual one.
 fn push_parts(alloc: Global, bytes: &mut Bytes, line: &str, parts: &str) -> Result<(), Fail> {
     for part in parts.lines() {
         let (name, usual) = part.split_once('=').ok_or("part")?;
@@ -147,7 +147,7 @@ fn push_parts(alloc: Global, bytes: &mut Bytes, line: &str, parts: &str) -> Resu
     Ok(())
 }
 
-/// The footer of a line, in which `signing` comes last.
+/// The footer of a line, which ends with the parts `signing`.
 fn footer_of(alloc: Global, line: &str, signing: &str) -> Result<Bytes, Fail> {
     let mut footer = Bytes::new(alloc);
     match setting(line, "footer") {
@@ -166,7 +166,7 @@ fn file_aad(alloc: Global, line: &str) -> Result<FileAad, Fail> {
     Ok(FileAad::new(alloc, prefix.as_slice(), &UNIQUE)?)
 }
 
-/// A file that holds nothing but its sealed footer.
+/// A file that consists of an encrypted footer alone.
 fn sealed(alloc: Global, line: &str) -> Result<Bytes, Fail> {
     let key = AesKey::new(&KEY)?;
     let aad = file_aad(alloc, line)?;
@@ -185,7 +185,7 @@ fn sealed(alloc: Global, line: &str) -> Result<Bytes, Fail> {
     Ok(file)
 }
 
-/// A file that holds nothing but its signed footer.
+/// A file that consists of a signed footer alone.
 fn signed(alloc: Global, line: &str) -> Result<Bytes, Fail> {
     let key = AesKey::new(&KEY)?;
     let aad = file_aad(alloc, line)?;
@@ -195,7 +195,7 @@ fn signed(alloc: Global, line: &str) -> Result<Bytes, Fail> {
     Ok(file)
 }
 
-/// A file that holds nothing but its footer in plain, without a signature.
+/// A file that consists of an unencrypted footer alone.
 fn bare(alloc: Global, line: &str) -> Result<Bytes, Fail> {
     let footer = footer_of(alloc, line, "")?;
     let mut file = Bytes::copy_of(alloc, b"PAR1")?;
@@ -219,7 +219,7 @@ fn unchanged(alloc: Global, line: &str) -> Result<Bytes, Fail> {
     }
 }
 
-/// Puts these bytes in place of those from `at` on.
+/// Overwrites the file from offset `at` on with these bytes.
 fn put(file: &mut Vec<u8>, at: usize, bytes: &[u8]) -> Result<(), Fail> {
     let mut place = at;
     for byte in bytes {
@@ -230,7 +230,7 @@ fn put(file: &mut Vec<u8>, at: usize, bytes: &[u8]) -> Result<(), Fail> {
     Ok(())
 }
 
-/// The file of a line, None where it names none.
+/// The file of a line; None for `absent`.
 pub(crate) fn file_of(alloc: Global, line: &str) -> Result<Option<Bytes>, Fail> {
     if line == "absent" {
         return Ok(None);

@@ -10,7 +10,7 @@ const KEY: [u8; 16] = [0, 1, 2, 3, 4, 5, 6, 7, 8, 9, 10, 11, 12, 13, 14, 15];
 // The bytes of `aad_file_unique`, of both files.
 const UNIQUE: [u8; 8] = [95, 236, 235, 102, 255, 200, 111, 56];
 
-// What the footer of the file with an encrypted footer opens to.
+// The plaintext of the footer of the file with an encrypted footer.
 const FOOTER: [u8; 217] = [
     21, 2, 25, 76, 72, 6, 115, 99, 104, 101, 109, 97, 21, 6, 0, 21, 4, 37, 0, 24, 2, 105, 100, 0,
     21, 12, 37, 2, 24, 4, 110, 97, 109, 101, 37, 0, 0, 21, 12, 37, 0, 24, 6, 115, 101, 99, 114,
@@ -24,7 +24,7 @@ const FOOTER: [u8; 217] = [
     20, 0, 0, 40, 3, 112, 109, 101, 0,
 ];
 
-// What follows its data: FileCryptoMetaData of 19 bytes, the footer's module, whose nonce is at 23, and the ends.
+// The bytes after its data: FileCryptoMetaData of 19 bytes, the footer's module, whose nonce is at 23, the length, `PARE`.
 const ENCRYPTED_TAIL: [u8; 276] = [
     28, 28, 40, 8, 95, 236, 235, 102, 255, 200, 111, 56, 0, 0, 24, 2, 107, 102, 0, 245, 0, 0, 0,
     38, 94, 22, 238, 224, 63, 89, 113, 139, 155, 93, 3, 203, 95, 133, 158, 250, 85, 18, 15, 44, 97,
@@ -42,7 +42,8 @@ const ENCRYPTED_TAIL: [u8; 276] = [
     69,
 ];
 
-// The same of the file with a signed footer, of 330 bytes, under the prefix `table`; the nonce follows it.
+// The bytes after the data of the file with a signed footer of 330 bytes, whose prefix is `table`. The nonce follows the
+// footer.
 const SIGNED_TAIL: [u8; 366] = [
     21, 2, 25, 76, 72, 6, 115, 99, 104, 101, 109, 97, 21, 6, 0, 21, 4, 37, 0, 24, 2, 105, 100, 0,
     21, 12, 37, 2, 24, 4, 110, 97, 109, 101, 37, 0, 0, 21, 12, 37, 0, 24, 6, 115, 101, 99, 114,

@@ -1,4 +1,4 @@
--- Whether an id is among others, after one more came.
+-- Whether an id is one of the ids after another one was appended.
 use Rattle.std.proofs.Common.{◌≡◌, ◌-◌, ℤ, pos, ◌<ℤ◌, Bool, true, false, ◌||◌, cond, List, [], ◌∷◌, ◌++◌, length, get_or, length-append, refl, sym, ap, ◌∙◌, subst, arith}
 use Rattle.std.specs.declared.cmp.Ordering.{Ordering}
 use Rattle.std.specs.declared.cmp.Ordering.TheVariants.{Less, Equal, Greater}

@@ -1,4 +1,4 @@
--- What a loop has built of a list, a map or a struct, before the parts still to come.
+-- The loops that read a list, a map or a struct: the parts that they have built, and the parts still to be read.
 use Rattle.std.proofs.Common.{◌≡◌, ℕ, ◌+◌, ◌-◌, ◌<◌, ◌≤◌, suc, zero, ℤ, List, [], ◌∷◌, ◌++◌, length, Option, Some, None, Result, Ok, Err, refl, sym, ap, ◌∙◌, subst, arith, rules}
 use Rattle.thrift_compact.specs.declared.tree.TVal.{TVal}
 use Rattle.thrift_compact.specs.declared.tree.TVal.{the_lemmas}
@@ -7,7 +7,7 @@ use Rattle.thrift_compact.specs.declared.tree.TMap.{TMap}
 use Rattle.thrift_compact.specs.declared.tree.TFields.{TFields}
 use Rattle.thrift_compact.specs.Answers.{mapped, Adds}
 use Rattle.thrift_compact.specs.declared.kind.TKind.{TKind}
-use Rattle.thrift_compact.specs.Laws.{ItemsLeft, items_more, items_same, items_end, EntriesLeft, entries_more, entries_no_key, entries_no_value, entries_same, entries_end, FieldsLeft, fields_more, fields_same, fields_end}
+use Rattle.thrift_compact.proofs.PartsLeft.{ItemsLeft, items_more, items_same, items_end, EntriesLeft, entries_more, entries_no_key, entries_no_value, entries_same, entries_end, FieldsLeft, fields_more, fields_same, fields_end}
 use Rattle.thrift_compact.specs.Reading.{Fault, Read, element, nest, size_at, map_kinds, field_head}
 use Rattle.thrift_compact.specs.Reading.{value as value_at}
 use Rattle.thrift_compact.specs.Tree.{Tree, Trees, no_trees, tree, Pairs, no_pairs, pair, Fields, no_fields, field}
@@ -80,7 +80,7 @@ seen_as_is : {X : Type 0} (r : Result (X × List ℕ) Fault) → mapped (λ x. x
 seen_as_is (Ok x) = refl
 seen_as_is (Err f) = refl
 
--- one turn of the loop over a list
+-- the loop over a list: one turn, and the end
 pub item_pushed : (vs pushed : List TVal) (v : TVal) (whole : Result (Trees × List ℕ) Fault) (one : Read Tree) (count turn : ℕ) (bs r : List ℕ) → turn < count → ItemsLeft (trees_before vs) whole one (count - turn) bs → one bs ≡ Ok (view v, r) → pushed ≡ vs ++ v ∷ [] → ItemsLeft (trees_before pushed) whole one (count - (turn + 1)) r
 item_pushed vs pushed v whole one count turn bs r early now e added =
     let left : count - turn ≡ suc (count - (turn + 1)) = omega arith in
@@ -96,9 +96,9 @@ list_done l whole one count turn bs late now =
     items_end (trees_before l.items) whole one bs at_end ∙ ap (λ ts. Ok (ts, bs)) (list_built l.items)
 
 -- the loop over a map
-pub map_begun : (room inner count : ℕ) (bs r s : List ℕ) (k v : TKind) (ps : List (TVal × TVal)) → room ≡ suc inner → size_at bs ≡ Ok (count, r) → 0 < count → map_kinds r ≡ Ok ((k, v), s) → ps ≡ [] → EntriesLeft (pairs_before ps) ((nest room).pairs bs) (element (value_at inner) k) (element (value_at inner) v) (count - 0) s
-map_begun room inner zero bs r s k v ps deep sized some kinds none = absurd (omega arith)
-map_begun room inner (suc n) bs r s k v ps deep sized some kinds none =
+pub map_begun : (depth inner count : ℕ) (bs r s : List ℕ) (k v : TKind) (ps : List (TVal × TVal)) → depth ≡ suc inner → size_at bs ≡ Ok (count, r) → 0 < count → map_kinds r ≡ Ok ((k, v), s) → ps ≡ [] → EntriesLeft (pairs_before ps) ((nest depth).pairs bs) (element (value_at inner) k) (element (value_at inner) v) (count - 0) s
+map_begun depth inner zero bs r s k v ps deep sized some kinds none = absurd (omega arith)
+map_begun depth inner (suc n) bs r s k v ps deep sized some kinds none =
     let left : suc n - 0 ≡ suc n = omega arith in
     rw (deep, none, left) (record { rest = seen_as_is _ ∙ sym (rw (sized, kinds) refl) })
 
@@ -127,8 +127,8 @@ map_done m whole key value count turn bs late now =
     entries_end (pairs_before m.pairs) whole key value bs at_end ∙ ap (λ ps. Ok (ps, bs)) (map_built m.pairs)
 
 -- the loop over the fields of a struct
-pub struct_begun : (room inner : ℕ) (bs : List ℕ) (ids : List ℤ) (vs : List (ℤ × TVal)) → room ≡ suc inner → ids ≡ [] → vs ≡ [] → FieldsLeft (fields_before vs) ((nest room).fields bs) (value_at inner) ids bs
-struct_begun room inner bs ids vs deep none empty =
+pub struct_begun : (depth inner : ℕ) (bs : List ℕ) (ids : List ℤ) (vs : List (ℤ × TVal)) → depth ≡ suc inner → ids ≡ [] → vs ≡ [] → FieldsLeft (fields_before vs) ((nest depth).fields bs) (value_at inner) ids bs
+struct_begun depth inner bs ids vs deep none empty =
     rw (deep, none, empty) (record { turns = length bs; enough = omega arith; rest = seen_as_is _ })
 
 pub field_pushed : (vs pushed : List (ℤ × TVal)) (whole : Result (Fields × List ℕ) Fault) (value : TKind → Read Tree) (ids after : List ℤ) (bs r s : List ℕ) (head : Option (ℤ × TKind)) (id : ℤ) (kind : TKind) (v : TVal) → FieldsLeft (fields_before vs) whole value ids bs → head ≡ Some (id, kind) → field_head ids bs ≡ Ok (head, r) → Adds (Ok head) ids after → value kind r ≡ Ok (view v, s) → pushed ≡ vs ++ (id, v) ∷ [] → length s < length bs → FieldsLeft (fields_before pushed) whole value after s

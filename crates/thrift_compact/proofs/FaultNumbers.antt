@@ -1,4 +1,4 @@
--- Where a varint, a number, bytes or a boolean were refused, the bytes have the fault that was told.
+-- If reading a varint, an integer, bytes or a boolean fails, the bytes have the reported fault.
 use Rattle.std.proofs.Common.{◌≡◌, ◌⊎◌, inl, inr, ℕ, zero, suc, ◌+◌, ◌-◌, ◌*◌, ◌<◌, ◌≤◌, nat_lt, ◌==◌, if◌then◌else◌, List, [], ◌∷◌, ◌++◌, length, take, drop, refl, ap, arith, Ok, Err}
 use Rattle.pme_base.specs.Steps.{◌>>=◌}
 use Rattle.pme_base.specs.declared.refusal.ThriftFault.TheVariants.{End, WrongType, Varint, Range}
@@ -11,7 +11,7 @@ use Rattle.thrift_compact.proofs.Steps.{one_refusal, cond_err, chosen, below_if,
 use Rattle.thrift_compact.proofs.Took.{Took}
 use Rattle.thrift_compact.proofs.TookNumbers.{IsShort, varint_took, size_took}
 
--- the part that a reading took, and a fault after it
+-- a part that was read, and a fault in the bytes after it
 pub after_part : (P : List ℕ → Type 0) (Faulty : List ℕ → Fault → Type 0) (bs r : List ℕ) (f : Fault) → Took P bs r → Faulty r f → Later P Faulty bs f
 after_part P Faulty bs r f t fault = (t.front, r, t.is, t.parts, fault)
 
@@ -23,7 +23,7 @@ pub byte_is : (bs : List ℕ) (x : ℕ × List ℕ) → byte_at bs ≡ Ok x → 
 byte_is [] x e = cc
 byte_is (b ∷ bs) x e = let same : (b, bs) ≡ x = cc in ap (λ p. p.0 ∷ p.1) same
 
--- a varint that ends too early, or has a byte too many or one that is too large
+-- a varint that is cut off, or whose last byte, after `more` others, is greater than 1
 abbrev Breaks : ℕ → ℕ → List ℕ → Fault → Type 0
 Breaks start more bs f =
     (GoOn bs × (length bs < suc more) × (f ≡ (End, 0)))

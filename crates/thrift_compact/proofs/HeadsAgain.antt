@@ -1,4 +1,4 @@
--- Heads of lists, maps and fields, and booleans, are read as they are spelled, whatever follows.
+-- The spellings of the heads of lists, maps and fields, and of booleans, are read as what they spell, whatever follows.
 use Rattle.std.proofs.Common.{◌≡◌, inl, inr, ℕ, ◌+◌, ◌*◌, ◌/◌, ◌%◌, ◌<◌, ◌≤◌, ℤ, Bool, true, false, ◌==◌, List, ◌∷◌, ◌++◌, length, refl, ap, ◌∙◌, arith, Some, Ok}
 use Rattle.thrift_compact.specs.declared.kind.TKind.{TKind}
 use Rattle.thrift_compact.specs.declared.kind.TKind.TheVariants as kind
@@ -16,7 +16,7 @@ pub of_code_again : (k : TKind) → of_code (code k) ≡ Some k
 of_code_again kind.True = refl
 of_code_again k = refl
 
--- a kind in the low half of a byte, and in the high one
+-- the low and the high half of a byte 16 * n + code k
 pub low_kind : (n : ℕ) (k : TKind) → of_code ((16 * n + code k) % 16) ≡ Some k
 low_kind n k = let e : (16 * n + code k) % 16 ≡ code k = omega (arith, code_range k) in ap of_code e ∙ of_code_again k
 

@@ -1,10 +1,10 @@
--- Varints, sizes and numbers are read as they are spelled, whatever follows.
+-- The spellings of varints, sizes and integers are read as what they spell, whatever follows.
 use Rattle.std.proofs.Common.{◌≡◌, ℕ, zero, suc, ◌+◌, ◌-◌, ◌*◌, ◌<◌, ◌≤◌, ℤ, true, false, nat_lt, List, [], ◌∷◌, ◌++◌, length, refl, sym, ap, arith, Ok}
 use Rattle.thrift_compact.specs.Reading.{varint_within, varint_at, number_at, size_at}
 use Rattle.thrift_compact.specs.Grammar.{IsVarint, IsBelow, IsSize, IsNumber}
 use Rattle.thrift_compact.proofs.Steps.{below, not_below}
 
--- what a varint may be that has so many bytes after the first one
+-- the limit of a varint with at most `more` bytes after the first, the last of which is at most 1
 abbrev pub room_for : ℕ → ℕ
 room_for zero = 2
 room_for (suc more) = 128 * room_for more

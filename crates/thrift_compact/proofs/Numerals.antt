@@ -1,4 +1,4 @@
--- The canonical spelling of numbers is a spelling of them.
+-- The canonical spellings of integers, sizes and heads follow the grammar.
 use Rattle.std.proofs.Common.{◌≡◌, ℕ, zero, suc, ◌+◌, ◌-◌, ◌*◌, ◌/◌, ◌%◌, ◌<◌, ◌≤◌, ◌==◌, nat_lt, nat_le, ℤ, pos, negsuc, ◌+ℤ◌, ◌-ℤ◌, nat_abs, Bool, true, false, ◌&&◌, inl, inr, Some, None, List, [], ◌∷◌, length, if◌then◌else◌, FitsSigned, w8, w16, w32, w64, refl, sym, ◌∙◌, ap, subst, arith}
 use Rattle.std.proofs.lemmas.Bool.{cases_lt, lt-ltb, le-ltb}
 use Rattle.std.proofs.lemmas.Int.{ints}
@@ -9,7 +9,7 @@ use Rattle.thrift_compact.specs.Reading.{zigzag, signed_byte, small_id, is_among
 use Rattle.thrift_compact.specs.Spelling.{varint_within, varint_of, zigzag_of, number_of, byte_of, list_head_of, is_near, field_head_by, field_head_of}
 use Rattle.thrift_compact.proofs.Pieces.{varint_of_is}
 
--- the numbers of a varint of so many more bytes lie below this limit
+-- the limit of a varint with at most `more` bytes after the first
 abbrev pub limit_of : ℕ → ℕ
 limit_of zero = 128
 limit_of (suc more) = 128 * limit_of more
@@ -45,7 +45,7 @@ varint_below limit n small below = record {
 pub size_is : (n : ℕ) → n < 2147483648 → IsSize n (varint_of n)
 size_is n below = varint_below 2147483648 n (omega arith) below
 
--- zigzag there and back
+-- decoding a zigzag number gives the integer that was encoded
 pub zigzag_back : (z : ℤ) → z ≡ zigzag (zigzag_of z)
 zigzag_back (pos n) =
     let even : 2 * n % 2 ≡ 0 = omega arith in

@@ -1,9 +1,9 @@
--- Facts on the pieces of a spelling.
-use Rattle.std.proofs.Common.{◌≡◌, ℕ, Result, Ok, Err, List, [], ◌∷◌, ◌++◌, refl, sym, ◌∙◌, ap, append_assoc, OnErr}
+-- Appending bytes to earlier bytes.
+use Rattle.std.proofs.Common.{◌≡◌, ℕ, Result, Ok, Err, List, [], ◌++◌, refl, sym, ◌∙◌, ap, append_assoc, OnErr}
 use Rattle.std.proofs.lemmas.List.{append-nil}
 use Rattle.thrift_compact.specs.Spelling.{varint_within, varint_of, Extends}
 
--- the old bytes stand in front of themselves, and still do after another step
+-- bytes begin with themselves, and still begin with the old bytes after more were appended
 pub extends_same : (old new : List ℕ) → new ≡ old → Extends old new
 extends_same old new same = record { more = []; parts = rw same (sym (append-nil old)) }
 
@@ -20,17 +20,9 @@ pub varint_of_is : (n : ℕ) → varint_of n ≡ varint_within 9 n
 unfolding varint_of
 varint_of_is n = refl
 
--- one more byte, or the same bytes
-pub extends_push : (old between new : List ℕ) (byte : ℕ) → Extends old between → new ≡ between ++ byte ∷ [] → Extends old new
-extends_push old between new byte first step = extends_more old between new first (extends_by between (byte ∷ []) new step)
-
 pub extends_unchanged : (old between new : List ℕ) → Extends old between → new ≡ between → Extends old new
 extends_unchanged old between new first step = extends_more old between new first (extends_same between new step)
 
 pub kept_unchanged : {T E : Type 0} (result : Result T E) (old between new : List ℕ) → Extends old between → OnErr result (new ≡ between) → OnErr result (Extends old new)
 kept_unchanged (Ok x) old between new first step = tt
 kept_unchanged (Err e) old between new first step = extends_unchanged old between new first step
-
-pub kept_more : {T E : Type 0} (result : Result T E) (old between new : List ℕ) → Extends old between → OnErr result (Extends between new) → OnErr result (Extends old new)
-kept_more (Ok x) old between new first step = tt
-kept_more (Err e) old between new first step = extends_more old between new first step

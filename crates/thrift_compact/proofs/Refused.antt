@@ -1,4 +1,4 @@
--- What has a fault is refused, and the refusal tells that fault.
+-- Bytes that have a fault are refused with that fault.
 use Rattle.std.proofs.Common.{◌≡◌, inl, inr, ℕ, zero, suc, ◌+◌, ◌*◌, ◌/◌, ◌%◌, ◌<◌, ◌≤◌, ℤ, true, false, nat_lt, ◌==◌, List, [], ◌∷◌, ◌++◌, length, refl, sym, ap, ◌∙◌, arith, append_assoc, length-append, Option, Some, None, Result, Ok, Err}
 use Rattle.pme_base.specs.Steps.{◌>>=◌}
 use Rattle.pme_base.specs.declared.refusal.ThriftFault.TheVariants.{End, WrongType, Varint, Repeated}
@@ -6,7 +6,7 @@ use Rattle.thrift_compact.specs.declared.kind.TKind.{TKind}
 use Rattle.thrift_compact.specs.declared.kind.TKind.TheVariants as kind
 use Rattle.thrift_compact.specs.Kinds.{code, of_code}
 use Rattle.thrift_compact.specs.Tree.{Tree, Trees, no_trees, tree, Pairs, no_pairs, pair, Fields, no_fields, field, count, pair_count}
-use Rattle.thrift_compact.specs.Reading.{Fault, byte_at, bytes_at, varint_within, varint_at, number_at, size_at, binary_at, truth_at, known, list_head, map_kinds, is_among, last, field_head, element, elements, entries, trees_at, pairs_from, pairs_at, fields, too_deep, nest, value}
+use Rattle.thrift_compact.specs.Reading.{Fault, byte_at, bytes_at, varint_within, varint_at, number_at, size_at, binary_at, truth_at, known_kind, list_head, map_kinds, is_among, last, field_head, element, elements, entries, trees_at, pairs_from, pairs_at, fields, too_deep, nest, value}
 use Rattle.thrift_compact.specs.Grammar.{NamesField, Within, Spells, AllSpell, PairsSpell}
 use Rattle.thrift_compact.specs.Faults.{NoByte, TooFew, GoOn, VarintFault, NumberFault, SizeFault, BinaryFault, TruthFault, IsNoKind, ElementFault, ListHeadFault, no_list_head, no_element_kind, list_size_fault, ListFault, MapKindsFault, PairFault, MapBodyFault, MapFault, FieldHeadFault, no_field_head, no_field_kind, id_fault, id_too_far, id_again, FieldsFault, DepthFault, Faults}
 use Rattle.thrift_compact.proofs.Steps.{below, not_below, other, one_refusal}
@@ -87,9 +87,9 @@ list_head_fails bs f (no_element_kind (b, rest, none, parts, is)) = rw (is, part
 list_head_fails bs f (list_size_fault k (front, rest, head, parts, fault)) =
     rw (parts, head, low_kind 15 k, high_half 15 k, size_fails rest f fault) refl
 
--- where the second kind isn't known, the first one may be known or not
+-- if the second type code has no kind the fault is the same whether the first has one or not
 second_unknown : {T : Type 0} (left : ℕ) (o : Option TKind) (next : TKind → TKind → Result T Fault)
-    → (known left o >>= λ key. known left None >>= λ value. next key value) ≡ Err (WrongType, left)
+    → (known_kind left o >>= λ key. known_kind left None >>= λ value. next key value) ≡ Err (WrongType, left)
 second_unknown left (Some k) next = refl
 second_unknown left None next = refl
 
@@ -125,73 +125,73 @@ field_head_fails ids bs f (id_too_far (b, rest, (delta, k, least, b_is, far), pa
     rw (is, parts, b_is, more, low_kind delta k, high_half delta k, near, far) refl
 field_head_fails ids bs f (id_again id k front rest names among parts is) = rw (is, parts) (again_fails ids id k front rest names among)
 
--- every fault in this room is told
+-- each fault of a value with `depth` levels is reported
 abbrev pub Refuses : ℕ → Type 0
-Refuses room = (k : TKind) (bs : List ℕ) (f : Fault) → Faults room k bs f → value room k bs ≡ Err f
+Refuses depth = (k : TKind) (bs : List ℕ) (f : Fault) → Faults depth k bs f → value depth k bs ≡ Err f
 
-element_fails : (room : ℕ) → Refuses room → (k : TKind) (bs : List ℕ) (f : Fault) → ElementFault (Faults room) k bs f → element (value room) k bs ≡ Err f
-element_fails room refuses kind.True bs f fault = rw (truth_fails bs f fault) refl
-element_fails room refuses kind.False bs f fault = rw (truth_fails bs f fault) refl
-element_fails room refuses k bs f fault = refuses k bs f fault
+element_fails : (depth : ℕ) → Refuses depth → (k : TKind) (bs : List ℕ) (f : Fault) → ElementFault (Faults depth) k bs f → element (value depth) k bs ≡ Err f
+element_fails depth refuses kind.True bs f fault = rw (truth_fails bs f fault) refl
+element_fails depth refuses kind.False bs f fault = rw (truth_fails bs f fault) refl
+element_fails depth refuses k bs f fault = refuses k bs f fault
 
--- an element that is spelled is read again, whatever follows
-element_read : (room : ℕ) (k : TKind) (t : Tree) (a r : List ℕ) → Within k t a (Spells room k t a) → element (value room) k (a ++ r) ≡ Ok (t, r)
-element_read room k t a r is = element_again room k t a r (Spells room k t a) is (value_again t room k a r)
+-- bytes that spell an element are read as that element, whatever bytes follow
+element_read : (depth : ℕ) (k : TKind) (t : Tree) (a r : List ℕ) → Within k t a (Spells depth k t a) → element (value depth) k (a ++ r) ≡ Ok (t, r)
+element_read depth k t a r is = element_again depth k t a r (Spells depth k t a) is (value_again t depth k a r)
 
-items_fail : (ts : Trees) (n room : ℕ) → Refuses room → (k : TKind) (front rest : List ℕ) (f : Fault) → count ts < n → AllSpell room k ts front
-    → ElementFault (Faults room) k rest f → elements (element (value room) k) n (front ++ rest) ≡ Err f
-items_fail ts zero room refuses k front rest f few all fault = absurd (omega arith)
-items_fail no_trees (suc n) room refuses k front rest f few all fault = rw (all, element_fails room refuses k rest f fault) refl
-items_fail (tree t ts) (suc n) room refuses k front rest f few (first, others, one, all, parts) fault =
-    rw (parts, append_assoc first others rest, element_read room k t first (others ++ rest) one, items_fail ts n room refuses k others rest f (omega arith) all fault) refl
+items_fail : (ts : Trees) (n depth : ℕ) → Refuses depth → (k : TKind) (front rest : List ℕ) (f : Fault) → count ts < n → AllSpell depth k ts front
+    → ElementFault (Faults depth) k rest f → elements (element (value depth) k) n (front ++ rest) ≡ Err f
+items_fail ts zero depth refuses k front rest f few all fault = absurd (omega arith)
+items_fail no_trees (suc n) depth refuses k front rest f few all fault = rw (all, element_fails depth refuses k rest f fault) refl
+items_fail (tree t ts) (suc n) depth refuses k front rest f few (first, others, one, all, parts) fault =
+    rw (parts, append_assoc first others rest, element_read depth k t first (others ++ rest) one, items_fail ts n depth refuses k others rest f (omega arith) all fault) refl
 
-list_fails : (room : ℕ) → Refuses room → (bs : List ℕ) (f : Fault) → ListFault room (Faults room) bs f → trees_at (value room) bs ≡ Err f
-list_fails room refuses bs f (inl head) = rw (list_head_fails bs f head) refl
-list_fails room refuses bs f (inr (k, n, (head, body, headed, parts, (ts, few, (front, rest, all, more, fault))))) =
-    rw (parts, list_head_again k n head body headed, more) (items_fail ts n room refuses k front rest f few all fault)
+list_fails : (depth : ℕ) → Refuses depth → (bs : List ℕ) (f : Fault) → ListFault depth (Faults depth) bs f → trees_at (value depth) bs ≡ Err f
+list_fails depth refuses bs f (inl head) = rw (list_head_fails bs f head) refl
+list_fails depth refuses bs f (inr (k, n, (head, body, headed, parts, (ts, few, (front, rest, all, more, fault))))) =
+    rw (parts, list_head_again k n head body headed, more) (items_fail ts n depth refuses k front rest f few all fault)
 
-pairs_fail : (ps : Pairs) (n room : ℕ) → Refuses room → (key_kind value_kind : TKind) (front rest : List ℕ) (f : Fault) → pair_count ps < n
-    → PairsSpell room key_kind value_kind ps front → PairFault room (Faults room) key_kind value_kind rest f
-    → entries (element (value room) key_kind) (element (value room) value_kind) n (front ++ rest) ≡ Err f
-pairs_fail ps zero room refuses key_kind value_kind front rest f few all fault = absurd (omega arith)
-pairs_fail no_pairs (suc n) room refuses key_kind value_kind front rest f few all (inl fault) = rw (all, element_fails room refuses key_kind rest f fault) refl
-pairs_fail no_pairs (suc n) room refuses key_kind value_kind front rest f few all (inr (key, (first, second, one, parts, fault))) =
-    rw (all, parts, element_read room key_kind key first second one, element_fails room refuses value_kind second f fault) refl
-pairs_fail (pair key one ps) (suc n) room refuses key_kind value_kind front rest f few (first, second, others, key_is, value_is, all, parts) fault =
+pairs_fail : (ps : Pairs) (n depth : ℕ) → Refuses depth → (key_kind value_kind : TKind) (front rest : List ℕ) (f : Fault) → pair_count ps < n
+    → PairsSpell depth key_kind value_kind ps front → PairFault depth (Faults depth) key_kind value_kind rest f
+    → entries (element (value depth) key_kind) (element (value depth) value_kind) n (front ++ rest) ≡ Err f
+pairs_fail ps zero depth refuses key_kind value_kind front rest f few all fault = absurd (omega arith)
+pairs_fail no_pairs (suc n) depth refuses key_kind value_kind front rest f few all (inl fault) = rw (all, element_fails depth refuses key_kind rest f fault) refl
+pairs_fail no_pairs (suc n) depth refuses key_kind value_kind front rest f few all (inr (key, (first, second, one, parts, fault))) =
+    rw (all, parts, element_read depth key_kind key first second one, element_fails depth refuses value_kind second f fault) refl
+pairs_fail (pair key one ps) (suc n) depth refuses key_kind value_kind front rest f few (first, second, others, key_is, value_is, all, parts) fault =
     rw (
       parts,
       append_assoc first (second ++ others) rest,
       append_assoc second others rest,
-      element_read room key_kind key first (second ++ (others ++ rest)) key_is,
-      element_read room value_kind one second (others ++ rest) value_is,
-      pairs_fail ps n room refuses key_kind value_kind others rest f (omega arith) all fault,
+      element_read depth key_kind key first (second ++ (others ++ rest)) key_is,
+      element_read depth value_kind one second (others ++ rest) value_is,
+      pairs_fail ps n depth refuses key_kind value_kind others rest f (omega arith) all fault,
     ) refl
 
-map_body_fails : (n room : ℕ) → Refuses room → (bs : List ℕ) (f : Fault) → 0 < n → MapBodyFault room (Faults room) n bs f → pairs_from (value room) n bs ≡ Err f
-map_body_fails zero room refuses bs f some fault = absurd (omega arith)
-map_body_fails (suc n) room refuses bs f some (inl kinds) = rw (map_kinds_fails bs f kinds) refl
-map_body_fails (suc n) room refuses bs f some (inr (key, one, (head, body, head_is, parts, (ps, few, (front, rest, all, more, fault))))) =
-    rw (parts, head_is, map_kinds_again key one body, more) (pairs_fail ps (suc n) room refuses key one front rest f few all fault)
+map_body_fails : (n depth : ℕ) → Refuses depth → (bs : List ℕ) (f : Fault) → 0 < n → MapBodyFault depth (Faults depth) n bs f → pairs_from (value depth) n bs ≡ Err f
+map_body_fails zero depth refuses bs f some fault = absurd (omega arith)
+map_body_fails (suc n) depth refuses bs f some (inl kinds) = rw (map_kinds_fails bs f kinds) refl
+map_body_fails (suc n) depth refuses bs f some (inr (key, one, (head, body, head_is, parts, (ps, few, (front, rest, all, more, fault))))) =
+    rw (parts, head_is, map_kinds_again key one body, more) (pairs_fail ps (suc n) depth refuses key one front rest f few all fault)
 
-map_fails : (room : ℕ) → Refuses room → (bs : List ℕ) (f : Fault) → MapFault room (Faults room) bs f → pairs_at (value room) bs ≡ Err f
-map_fails room refuses bs f (inl size) = rw (size_fails bs f size) refl
-map_fails room refuses bs f (inr (n, some, (front, rest, sized, parts, fault))) =
-    rw (parts, size_again n front rest sized) (map_body_fails n room refuses rest f some fault)
+map_fails : (depth : ℕ) → Refuses depth → (bs : List ℕ) (f : Fault) → MapFault depth (Faults depth) bs f → pairs_at (value depth) bs ≡ Err f
+map_fails depth refuses bs f (inl size) = rw (size_fails bs f size) refl
+map_fails depth refuses bs f (inr (n, some, (front, rest, sized, parts, fault))) =
+    rw (parts, size_again n front rest sized) (map_body_fails n depth refuses rest f some fault)
 
-fields_fail : (fs : Fields) (n room : ℕ) → Refuses room → (ids : List ℤ) (bs : List ℕ) (f : Fault) → length bs ≤ n → FieldsFault room (Faults room) ids fs bs f
-    → fields (value room) n ids bs ≡ Err f
-fields_fail no_fields zero room refuses ids [] f enough (inl head) = ap Err (one_refusal (field_head ids []) f (End, 0) (field_head_fails ids [] f head) refl)
-fields_fail no_fields zero room refuses ids (b ∷ bs) f enough (inl head) = absurd (omega arith)
-fields_fail no_fields zero room refuses ids bs f enough (inr (id, k, (front, rest, head, parts, fault))) =
+fields_fail : (fs : Fields) (n depth : ℕ) → Refuses depth → (ids : List ℤ) (bs : List ℕ) (f : Fault) → length bs ≤ n → FieldsFault depth (Faults depth) ids fs bs f
+    → fields (value depth) n ids bs ≡ Err f
+fields_fail no_fields zero depth refuses ids [] f enough (inl head) = ap Err (one_refusal (field_head ids []) f (End, 0) (field_head_fails ids [] f head) refl)
+fields_fail no_fields zero depth refuses ids (b ∷ bs) f enough (inl head) = absurd (omega arith)
+fields_fail no_fields zero depth refuses ids bs f enough (inr (id, k, (front, rest, head, parts, fault))) =
     absurd (omega (arith, ap length parts, length-append front rest, head_long ids id k front head))
-fields_fail no_fields (suc n) room refuses ids bs f enough (inl head) = rw (field_head_fails ids bs f head) refl
-fields_fail no_fields (suc n) room refuses ids bs f enough (inr (id, k, (front, rest, head, parts, fault))) =
+fields_fail no_fields (suc n) depth refuses ids bs f enough (inl head) = rw (field_head_fails ids bs f head) refl
+fields_fail no_fields (suc n) depth refuses ids bs f enough (inr (id, k, (front, rest, head, parts, fault))) =
     rw (parts, field_head_again ids id k front rest head, refuses k rest f fault) refl
-fields_fail (field id t fs) zero room refuses ids bs f enough (k, (front, rest, head, parts, later)) =
+fields_fail (field id t fs) zero depth refuses ids bs f enough (k, (front, rest, head, parts, later)) =
     absurd (omega (arith, ap length parts, length-append front rest, head_long ids id k front head))
-fields_fail (field id t fs) (suc n) room refuses ids bs f enough (k, (front, rest, head, parts, (body, others, one, more, fault))) =
+fields_fail (field id t fs) (suc n) depth refuses ids bs f enough (k, (front, rest, head, parts, (body, others, one, more, fault))) =
     let shorter : length others ≤ n = omega (arith, ap length parts, ap length more, length-append front rest, length-append body others, head_long ids id k front head) in
-    rw (parts, field_head_again ids id k front rest head, more, value_again t room k body others one, fields_fail fs n room refuses (ids ++ id ∷ []) others f shorter fault) refl
+    rw (parts, field_head_again ids id k front rest head, more, value_again t depth k body others one, fields_fail fs n depth refuses (ids ++ id ∷ []) others f shorter fault) refl
 
 deep_fails : {A : Type 0} (bs : List ℕ) (f : Fault) (r : Result (A × List ℕ) Fault) → too_deep bs ≡ r → DepthFault bs f → r ≡ Err f
 deep_fails bs f r is (inl h) = sym is ∙ rw (h.0, h.1) refl
@@ -211,20 +211,20 @@ refuses_zero kind.Set bs f fault = rw (deep_fails bs f ((nest zero).trees bs) re
 refuses_zero kind.Map bs f fault = rw (deep_fails bs f ((nest zero).pairs bs) refl fault) refl
 refuses_zero kind.Struct bs f fault = rw (deep_fails bs f ((nest zero).fields bs) refl fault) refl
 
-refuses_more : (room : ℕ) → Refuses room → Refuses (suc room)
-refuses_more room refuses kind.True bs f fault = absurd fault
-refuses_more room refuses kind.False bs f fault = absurd fault
-refuses_more room refuses kind.I8 bs f fault = rw (byte_fails bs f fault) refl
-refuses_more room refuses kind.I16 bs f fault = rw (number_fails 65536 bs f fault) refl
-refuses_more room refuses kind.I32 bs f fault = rw (number_fails 4294967296 bs f fault) refl
-refuses_more room refuses kind.I64 bs f fault = rw (number_fails 18446744073709551616 bs f fault) refl
-refuses_more room refuses kind.Double bs f fault = rw (bytes_fails 8 bs f fault) refl
-refuses_more room refuses kind.Binary bs f fault = rw (binary_fails bs f fault) refl
-refuses_more room refuses kind.List bs f fault = rw (list_fails room refuses bs f fault) refl
-refuses_more room refuses kind.Set bs f fault = rw (list_fails room refuses bs f fault) refl
-refuses_more room refuses kind.Map bs f fault = rw (map_fails room refuses bs f fault) refl
-refuses_more room refuses kind.Struct bs f (fs, fault) = rw (fields_fail fs (length bs) room refuses [] bs f (omega arith) fault) refl
+refuses_more : (depth : ℕ) → Refuses depth → Refuses (suc depth)
+refuses_more depth refuses kind.True bs f fault = absurd fault
+refuses_more depth refuses kind.False bs f fault = absurd fault
+refuses_more depth refuses kind.I8 bs f fault = rw (byte_fails bs f fault) refl
+refuses_more depth refuses kind.I16 bs f fault = rw (number_fails 65536 bs f fault) refl
+refuses_more depth refuses kind.I32 bs f fault = rw (number_fails 4294967296 bs f fault) refl
+refuses_more depth refuses kind.I64 bs f fault = rw (number_fails 18446744073709551616 bs f fault) refl
+refuses_more depth refuses kind.Double bs f fault = rw (bytes_fails 8 bs f fault) refl
+refuses_more depth refuses kind.Binary bs f fault = rw (binary_fails bs f fault) refl
+refuses_more depth refuses kind.List bs f fault = rw (list_fails depth refuses bs f fault) refl
+refuses_more depth refuses kind.Set bs f fault = rw (list_fails depth refuses bs f fault) refl
+refuses_more depth refuses kind.Map bs f fault = rw (map_fails depth refuses bs f fault) refl
+refuses_more depth refuses kind.Struct bs f (fs, fault) = rw (fields_fail fs (length bs) depth refuses [] bs f (omega arith) fault) refl
 
-pub refuses : (room : ℕ) → Refuses room
+pub refuses : (depth : ℕ) → Refuses depth
 refuses zero = refuses_zero
-refuses (suc room) = refuses_more room (refuses room)
+refuses (suc depth) = refuses_more depth (refuses depth)

@@ -1,4 +1,4 @@
--- What a reading took from the front of the bytes.
+-- The bytes that a read consumes, and the bytes after them.
 use Rattle.std.proofs.Common.{◌≡◌, ℕ, zero, suc, ◌<◌, List, [], ◌∷◌, ◌++◌, refl, sym, ap, ◌∙◌, subst, append_assoc, Result, Ok}
 use Rattle.thrift_compact.specs.Reading.{Fault, byte_at}
 use Rattle.thrift_compact.specs.Spelled.{AreBytes}

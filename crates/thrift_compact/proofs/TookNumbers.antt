@@ -1,4 +1,4 @@
--- Varints, sizes, numbers, bytes and booleans that were read are spelled in the bytes that the reading took.
+-- Varints, sizes, integers, bytes and booleans that are read are spelled by the bytes that the read consumes.
 use Rattle.std.proofs.Common.{◌≡◌, inl, inr, ℕ, zero, suc, ◌+◌, ◌-◌, ◌*◌, ◌<◌, ◌≤◌, ℤ, Bool, nat_lt, ◌==◌, if◌then◌else◌, List, [], ◌∷◌, ◌++◌, length, take, drop, refl, sym, ap, subst, arith, Ok, Err}
 use Rattle.std.proofs.lemmas.List.{length-take-le, take-append-drop}
 use Rattle.pme_base.specs.Steps.{◌>>=◌}
@@ -76,7 +76,7 @@ size_took bs x each e =
     took_ok IsSize bs n x (ap Ok same)
     (took_as (IsShort 9 n.0) (IsSize n.0) bs n.1 (λ front s. short_below 2147483648 n.0 front (below_if n.0 2147483648 small) s) (varint_took bs (length bs) 9 n each read))
 
--- so many bytes
+-- exactly n bytes
 abbrev pub AreSo : ℕ → List ℕ → List ℕ → Type 0
 AreSo n bytes front = (length bytes ≡ n) × (front ≡ bytes)
 

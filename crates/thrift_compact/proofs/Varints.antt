@@ -1,18 +1,19 @@
--- A varint that is read byte by byte: what was read so far, and what the bytes to come add to it.
-use Rattle.std.proofs.Common.{◌≡◌, ℕ, zero, suc, ◌+◌, ◌-◌, ◌*◌, ◌^◌, ◌<◌, ◌≤◌, List, [], ◌∷◌, length, Result, Ok, Err, refl, sym, ap, ◌∙◌, subst, arith}
+-- Reading a varint byte by byte: the value of the bytes read so far, and what further bytes add to it.
+use Rattle.std.proofs.Common.{◌≡◌, ℕ, zero, suc, ◌+◌, ◌-◌, ◌*◌, ◌^◌, ◌<◌, ◌≤◌, List, [], ◌∷◌, Result, Ok, Err, refl, sym, ap, ◌∙◌, subst, arith}
 use Rattle.std.proofs.Math.Nat.{mul-le-mul_left, mul-le-mul_right, mul_assoc}
 use Rattle.std.proofs.lemmas.Bool.{lt-ltb, le-ltb}
 use Rattle.pme_base.specs.declared.refusal.ThriftFault.TheVariants.{Varint}
 use Rattle.pme_base.specs.Steps.{◌>>=◌}
-use Rattle.thrift_compact.specs.Answers.{mapped, byte_is}
-use Rattle.thrift_compact.specs.Reading.{Fault, byte_at, varint_within, varint_at}
+use Rattle.thrift_compact.specs.Answers.{mapped}
+use Rattle.thrift_compact.specs.Reading.{Fault, byte_at, varint_within}
+use Rattle.thrift_compact.proofs.Steps.{byte_is}
 
--- above every number that so many more bytes may bring
+-- the limit of the value of a last byte of at most 1 and `more` bytes before it
 abbrev pub above : ℕ → ℕ
 above zero = 2
 above (suc more) = 128 * above more
 
--- the bytes so far are worth `value`, and the next counts `scale` times
+-- the bytes read so far have the value `value`, and the next byte counts `scale` times
 pub record IsPart (whole : Result (ℕ × List ℕ) Fault) (start more value scale : ℕ) (bs : List ℕ) : Type 0 where
   pub low : value < scale
   pub fits : scale * above more ≡ 2 ^ 64
@@ -28,11 +29,11 @@ two_above : (more : ℕ) → 2 ≤ above more
 two_above zero = omega arith
 two_above (suc more) = omega (arith, two_above more)
 
--- 64 bits are enough, with one byte more of any value below 128
+-- the value still fits 64 bits after one more byte below 128
 pub part_fits : (whole : Result (ℕ × List ℕ) Fault) (start more value scale b : ℕ) (bs : List ℕ) → IsPart whole start (suc more) value scale bs → b < 128 → (value + b * scale < scale * 128) × (scale * 256 ≤ 2 ^ 64)
 part_fits whole start more value scale b bs part small =
     let byte : b * scale ≤ 127 * scale = grind (arith, mul-le-mul_right) in
-    let room : (scale * 128) * 2 ≤ (scale * 128) * above more = mul-le-mul_left (scale * 128) (two_above more) in
+    let depth : (scale * 128) * 2 ≤ (scale * 128) * above more = mul-le-mul_left (scale * 128) (two_above more) in
     let fits : scale * (128 * above more) ≡ 2 ^ 64 = part.fits in
     (omega (arith, part.low), omega (arith, mul_assoc scale 128 (above more)))
 
@@ -41,10 +42,6 @@ add_scaled value scale b = omega arith
 
 add_both : (value scale b n : ℕ) → value + b * scale + scale * 128 * n ≡ value + scale * (b + 128 * n)
 add_both value scale b n = omega arith
-
-begins : (r : Result (ℕ × List ℕ) Fault) → mapped (λ n. 0 + 1 * n) r ≡ r
-begins (Ok x) = ap (λ n. Ok (n, x.1)) (omega arith)
-begins (Err f) = refl
 
 joined : (value scale b : ℕ) (r : Result (ℕ × List ℕ) Fault) → mapped (λ n. value + b * scale + scale * 128 * n) r ≡ mapped (λ n. value + scale * n) (r >>= λ high. Ok (b + 128 * high.0, high.1))
 joined value scale b (Ok x) = ap (λ n. Ok (n, x.1)) (add_both value scale b x.0)
@@ -84,11 +81,7 @@ part_long whole start value scale b bs rest part e large =
     let whole_is = subst (λ (x : List ℕ). mapped (λ n. value + scale * n) (varint_within start zero x) ≡ whole) front part.rest in
     sym whole_is ∙ (rw (le-ltb b 2 large) refl)
 
--- where the reading begins
-pub part_begins : (bs : List ℕ) → IsPart (varint_at bs) (length bs) 9 0 1 bs
-part_begins bs = record { low = omega arith; fits = refl; rest = begins (varint_at bs) }
-
--- at one of the first nine bytes
+-- the invariant in a turn for one of the first nine bytes
 pub at_turn : (whole : Result (ℕ × List ℕ) Fault) (start turn value scale : ℕ) (bs : List ℕ) → turn < 9 → IsPart whole start (9 - turn) value scale bs → IsPart whole start (suc (8 - turn)) value scale bs
 at_turn whole start turn value scale bs early part =
     let more : 9 - turn ≡ suc (8 - turn) = omega arith in

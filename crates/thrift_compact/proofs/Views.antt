@@ -1,4 +1,4 @@
--- The views of lists, maps and structs, part by part.
+-- The trees of lists, maps and structs, in terms of their parts.
 use Rattle.std.proofs.Common.{rules, ◌≡◌, List, ℤ}
 use Rattle.thrift_compact.specs.declared.tree.TVal.{TVal, the_lemmas}
 use Rattle.thrift_compact.specs.declared.tree.TList.{TList}

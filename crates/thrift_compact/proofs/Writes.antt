@@ -1,4 +1,4 @@
--- Two pieces put one after the other.
+-- Appending two pieces one after another.
 use Rattle.std.proofs.Common.{◌≡◌, ℕ, List, ◌++◌, ◌∙◌, ap, append_assoc}
 
 pub two_pieces : (old between new first second : List ℕ) → between ≡ old ++ first → new ≡ between ++ second → new ≡ old ++ (first ++ second)

@@ -1,4 +1,4 @@
--- The trees that the writer's calls describe, their calls, and the law on what the calls write.
+-- The structs that can be written by the writer's calls, the calls for each of them, and the laws on what the calls write.
 use Rattle.std.specs.Prelude.{◌≡◌, ℕ, suc, ℤ, ◌<ℤ◌, FitsSigned, List, [], ◌∷◌, ◌++◌, length, Option, Some, None}
 use Rattle.std.specs.Int.{w16}
 use Rattle.thrift_compact.specs.declared.kind.TKind.{TKind}
@@ -11,7 +11,7 @@ use Rattle.thrift_compact.specs.Spelling.{canonical, element_kind, items_kind}
 use Rattle.thrift_compact.specs.Tree.{Tree, truth, int8, int16, int32, int64, double, binary, list, set, map, struct, Trees, no_trees, tree, Fields, no_fields, field, count}
 use Rattle.thrift_compact.specs.Writing.{Draft, new_draft, finished, after, May, IsWhole}
 
--- the calls of a struct's fields, of a field, and of a list's items, in the order of the tree
+-- the calls for a struct's fields, for a field, and for a list's items, in the order of the tree
 abbrev mutual
   pub field_calls : Fields → List call.Call
   field_calls no_fields = []
@@ -47,71 +47,66 @@ abbrev mutual
   one_item_calls (set ts) = []
   one_item_calls (map ps) = []
 
--- the calls of a whole struct
+-- the calls for the outermost struct
 abbrev pub calls_of : Fields → List call.Call
 calls_of fs = call.struct_begin ∷ (field_calls fs ++ call.struct_end ∷ [])
 
--- an id that is above the last one, where there is one
+-- the id is greater than the last one, if there is one
 abbrev pub IsAbove : Option ℤ → ℤ → Type 0
 IsAbove None id = Unit {0}
 IsAbove (Some last) id = last <ℤ id
 
--- a field's value within which `room` structs and lists may be open: a boolean, a whole number, a binary, a struct
--- whose ids ascend, or a list of whole numbers, binaries or structs. Doubles, sets and maps have no call, and
--- neither have lists of booleans or of lists.
+-- a field's value that calls can write, with at most `depth` levels of structs and lists: a boolean, an integer, a
+-- binary, a struct whose ids ascend, or a list of integers, binaries or structs. Doubles, sets and maps have no call,
+-- and neither have lists of booleans or of lists.
 abbrev mutual
   pub IsDescribed : ℕ → Tree → Type 0
-  IsDescribed room (truth t) = Unit {0}
-  IsDescribed room (int8 z) = IsWhole kind.I8 z
-  IsDescribed room (int16 z) = IsWhole kind.I16 z
-  IsDescribed room (int32 z) = IsWhole kind.I32 z
-  IsDescribed room (int64 z) = IsWhole kind.I64 z
-  IsDescribed room (binary bytes) = IsSmall (length bytes) × AreBytes bytes
-  IsDescribed room (struct fs) = (within : ℕ) × (room ≡ suc within) × AreFields within None fs
-  IsDescribed room (list ts) = (within : ℕ) × (room ≡ suc within) × IsSmall (count ts) × AreItems within (items_kind ts) ts
-  IsDescribed room (double bytes) = ⊥
-  IsDescribed room (set ts) = ⊥
-  IsDescribed room (map ps) = ⊥
+  IsDescribed depth (truth t) = Unit {0}
+  IsDescribed depth (int8 z) = IsWhole kind.I8 z
+  IsDescribed depth (int16 z) = IsWhole kind.I16 z
+  IsDescribed depth (int32 z) = IsWhole kind.I32 z
+  IsDescribed depth (int64 z) = IsWhole kind.I64 z
+  IsDescribed depth (binary bytes) = IsSmall (length bytes) × AreBytes bytes
+  IsDescribed depth (struct fs) = (within : ℕ) × (depth ≡ suc within) × AreFields within None fs
+  IsDescribed depth (list ts) = (within : ℕ) × (depth ≡ suc within) × IsSmall (count ts) × AreItems within (items_kind ts) ts
+  IsDescribed depth (double bytes) = ⊥
+  IsDescribed depth (set ts) = ⊥
+  IsDescribed depth (map ps) = ⊥
 
-  -- fields behind the id `last`
+  -- fields with ascending ids after the id `last`
   pub AreFields : ℕ → Option ℤ → Fields → Type 0
-  AreFields room last no_fields = Unit {0}
-  AreFields room last (field id t fs) = FitsSigned w16 id × IsAbove last id × IsDescribed room t × AreFields room (Some id) fs
+  AreFields depth last no_fields = Unit {0}
+  AreFields depth last (field id t fs) = FitsSigned w16 id × IsAbove last id × IsDescribed depth t × AreFields depth (Some id) fs
 
-  -- items of one kind
+  -- items that all have the kind k
   pub AreItems : ℕ → TKind → Trees → Type 0
-  AreItems room k no_trees = Unit {0}
-  AreItems room k (tree t ts) = (element_kind t ≡ k) × IsItem room t × AreItems room k ts
+  AreItems depth k no_trees = Unit {0}
+  AreItems depth k (tree t ts) = (element_kind t ≡ k) × IsItem depth t × AreItems depth k ts
 
   pub IsItem : ℕ → Tree → Type 0
-  IsItem room (int8 z) = IsWhole kind.I8 z
-  IsItem room (int16 z) = IsWhole kind.I16 z
-  IsItem room (int32 z) = IsWhole kind.I32 z
-  IsItem room (int64 z) = IsWhole kind.I64 z
-  IsItem room (binary bytes) = IsSmall (length bytes) × AreBytes bytes
-  IsItem room (struct fs) = (within : ℕ) × (room ≡ suc within) × AreFields within None fs
-  IsItem room (truth t) = ⊥
-  IsItem room (double bytes) = ⊥
-  IsItem room (list ts) = ⊥
-  IsItem room (set ts) = ⊥
-  IsItem room (map ps) = ⊥
+  IsItem depth (int8 z) = IsWhole kind.I8 z
+  IsItem depth (int16 z) = IsWhole kind.I16 z
+  IsItem depth (int32 z) = IsWhole kind.I32 z
+  IsItem depth (int64 z) = IsWhole kind.I64 z
+  IsItem depth (binary bytes) = IsSmall (length bytes) × AreBytes bytes
+  IsItem depth (struct fs) = (within : ℕ) × (depth ≡ suc within) × AreFields within None fs
+  IsItem depth (truth t) = ⊥
+  IsItem depth (double bytes) = ⊥
+  IsItem depth (list ts) = ⊥
+  IsItem depth (set ts) = ⊥
+  IsItem depth (map ps) = ⊥
 
--- the calls may be made one after the other, and lead from one draft to the other
+-- the calls may be made one after another, and change the draft `from` into the draft `to`
 abbrev pub Runs : List call.Call → Draft → Draft → Type 0
 Runs [] from to = from ≡ to
 Runs (c ∷ calls) from to = May c from × Runs calls (after c from) to
 
--- what is written after some calls
-abbrev pub made : List call.Call → Draft → Draft
-made [] from = from
-made (c ∷ calls) from = made calls (after c from)
-
--- the calls of each struct that they describe may be made, and write its canonical spelling
+-- for each struct that calls can write, its calls may be made and write its canonical spelling
 abbrev pub WritesCanonically : Type 0
 WritesCanonically =
     (fs : Fields) → IsDescribed 32 (struct fs) → Runs (calls_of fs) new_draft (finished (canonical (struct fs)))
 
--- and that is a spelling of the very tree
+-- the canonical spelling of such a struct spells the struct itself, whose fields are in order already
 abbrev pub WritesWhatIsDescribed : Type 0
 WritesWhatIsDescribed =
     (fs : Fields) → IsDescribed 32 (struct fs) → Spells 32 kind.Struct (struct fs) (canonical (struct fs))

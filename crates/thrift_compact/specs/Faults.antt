@@ -1,5 +1,5 @@
--- The faults of bytes that don't begin with a spelling: some parts are spelled, and the part after them has a fault of
--- its own. A fault's place is told by the count of the bytes that are left there.
+-- The faults of bytes that don't begin with a spelling: some parts are spelled, and the part after them has a fault. The
+-- place of a fault is given as the number of bytes from there to the end.
 use Rattle.std.specs.Prelude.{◌≡◌, ◌⊎◌, ℕ, zero, suc, ◌+◌, ◌*◌, ◌/◌, ◌%◌, ◌<◌, ◌≤◌, ℤ, pos, ◌+ℤ◌, true, false, List, [], ◌∷◌, ◌++◌, length}
 use Rattle.pme_base.specs.declared.refusal.ThriftFault.{ThriftFault}
 use Rattle.pme_base.specs.declared.refusal.ThriftFault.TheVariants.{End, WrongType, Varint, Range, Repeated, Depth}
@@ -10,39 +10,39 @@ use Rattle.thrift_compact.specs.Reading.{Fault, small_id, is_among, last}
 use Rattle.thrift_compact.specs.Tree.{Tree, Trees, Pairs, Fields, no_fields, field, count, pair_count}
 use Rattle.thrift_compact.specs.Grammar.{IsBelow, IsSize, IsListHead, NamesField, IsFieldHead, Within, Spells, AllSpell, PairsSpell}
 
--- what says of bytes which fault they have
+-- a relation between bytes and a fault that they have
 abbrev pub Faultiness : Type 1
 Faultiness = List ℕ → Fault → Type 0
 
--- a byte is missing here
+-- there is no byte here
 abbrev pub NoByte : Faultiness
 NoByte bs f = (bs ≡ []) × (f ≡ (End, 0))
 
--- of n bytes some are missing
+-- there are fewer than n bytes
 abbrev pub TooFew : ℕ → Faultiness
 TooFew n bs f = (length bs < n) × (f ≡ (End, 0))
 
--- the byte here is wrong in itself
+-- the first byte is wrong, whatever follows
 abbrev pub WrongByte : (ℕ → Type 0) → ThriftFault → Faultiness
 WrongByte Wrong why bs f = (b : ℕ) × (rest : List ℕ) × Wrong b × (bs ≡ b ∷ rest) × (f ≡ (why, length bs))
 
--- a part is there, and the fault is in what follows it
+-- the bytes begin with a part, and the bytes after it have the fault
 abbrev pub Later : (List ℕ → Type 0) → Faultiness → Faultiness
 Later Part Faulty bs f = (front rest : List ℕ) × Part front × (bs ≡ front ++ rest) × Faulty rest f
 
--- bytes of a varint, each of which tells that another follows
+-- bytes that each have the continuation bit of a varint set
 abbrev pub GoOn : List ℕ → Type 0
 GoOn [] = Unit {0}
 GoOn (b ∷ bs) = (128 ≤ b) × GoOn bs
 
--- a varint that ends too early, or that has more than ten bytes or more than 64 bits
+-- a varint that is cut off, or that has more than ten bytes or more than 64 bits
 abbrev pub VarintFault : Faultiness
 VarintFault bs f =
     (GoOn bs × (length bs < 10) × (f ≡ (End, 0)))
     ⊎ ((nine rest : List ℕ) × (tenth : ℕ) × GoOn nine × (length nine ≡ 9) × (2 ≤ tenth)
     × (bs ≡ nine ++ tenth ∷ rest) × (f ≡ (Varint, length bs)))
 
--- the same of a number that must be below the limit
+-- the faults of a varint that must be below the limit
 abbrev pub NumberFault : ℕ → Faultiness
 NumberFault limit bs f =
     VarintFault bs f
@@ -55,15 +55,15 @@ SizeFault = NumberFault 2147483648
 abbrev pub BinaryFault : Faultiness
 BinaryFault bs f = SizeFault bs f ⊎ ((n : ℕ) × Later (IsSize n) (TooFew n) bs f)
 
--- a boolean outside a field
+-- a boolean in a list, a set or a map, which takes one byte
 abbrev pub TruthFault : Faultiness
 TruthFault bs f = NoByte bs f ⊎ WrongByte (λ b. 2 < b) WrongType bs f
 
--- a number that no type has
+-- no kind has this type code
 abbrev pub IsNoKind : ℕ → Type 0
 IsNoKind n = (n ≡ 0) ⊎ (12 < n)
 
--- a value of kind k in a list, a set or a map, where `Faulty` says which faults a value of a kind has
+-- a value of kind k in a list, a set or a map. `Faulty` has the faults of a field's value of a kind.
 abbrev pub ElementFault : (TKind → Faultiness) → TKind → Faultiness
 ElementFault Faulty kind.True bs f = TruthFault bs f
 ElementFault Faulty kind.False bs f = TruthFault bs f
@@ -75,50 +75,50 @@ pub data ListHeadFault (bs : List ℕ) (f : Fault) : Type 0 where
   no_element_kind : WrongByte (λ b. IsNoKind (b % 16)) WrongType bs f → ListHeadFault bs f
   list_size_fault : (k : TKind) → Later (λ front. front ≡ (240 + code k) ∷ []) SizeFault bs f → ListHeadFault bs f
 
--- of n elements some are spelled, and the next one has a fault
+-- fewer than n elements are spelled, and the next one has a fault
 abbrev pub ItemsFault : ℕ → (TKind → Faultiness) → TKind → ℕ → Faultiness
-ItemsFault room Faulty k n bs f =
-    (ts : Trees) × (count ts < n) × Later (AllSpell room k ts) (ElementFault Faulty k) bs f
+ItemsFault depth Faulty k n bs f =
+    (ts : Trees) × (count ts < n) × Later (AllSpell depth k ts) (ElementFault Faulty k) bs f
 
 abbrev pub ListFault : ℕ → (TKind → Faultiness) → Faultiness
-ListFault room Faulty bs f =
-    ListHeadFault bs f ⊎ ((k : TKind) × (n : ℕ) × Later (IsListHead k n) (ItemsFault room Faulty k n) bs f)
+ListFault depth Faulty bs f =
+    ListHeadFault bs f ⊎ ((k : TKind) × (n : ℕ) × Later (IsListHead k n) (ItemsFault depth Faulty k n) bs f)
 
--- the byte with both kinds of a map
+-- the byte with the kinds of a map's keys and values
 abbrev pub MapKindsFault : Faultiness
 MapKindsFault bs f = NoByte bs f ⊎ WrongByte (λ b. IsNoKind (b / 16) ⊎ IsNoKind (b % 16)) WrongType bs f
 
 abbrev pub IsElement : ℕ → TKind → Tree → List ℕ → Type 0
-IsElement room k t front = Within k t front (Spells room k t front)
+IsElement depth k t front = Within k t front (Spells depth k t front)
 
--- a key, or the value after it
+-- the fault of a key, or of the value after it
 abbrev pub PairFault : ℕ → (TKind → Faultiness) → TKind → TKind → Faultiness
-PairFault room Faulty key_kind value_kind bs f =
+PairFault depth Faulty key_kind value_kind bs f =
     ElementFault Faulty key_kind bs f
-    ⊎ ((key : Tree) × Later (IsElement room key_kind key) (ElementFault Faulty value_kind) bs f)
+    ⊎ ((key : Tree) × Later (IsElement depth key_kind key) (ElementFault Faulty value_kind) bs f)
 
--- of n pairs some are spelled, and the next one has a fault
+-- fewer than n pairs are spelled, and the next one has a fault
 abbrev pub PairsFault : ℕ → (TKind → Faultiness) → ℕ → TKind → TKind → Faultiness
-PairsFault room Faulty n key_kind value_kind bs f =
+PairsFault depth Faulty n key_kind value_kind bs f =
     (ps : Pairs) × (pair_count ps < n)
-    × Later (PairsSpell room key_kind value_kind ps) (PairFault room Faulty key_kind value_kind) bs f
+    × Later (PairsSpell depth key_kind value_kind ps) (PairFault depth Faulty key_kind value_kind) bs f
 
--- what follows the size n of a map
+-- the bytes after the size n of a map
 abbrev pub MapBodyFault : ℕ → (TKind → Faultiness) → ℕ → Faultiness
-MapBodyFault room Faulty n bs f =
+MapBodyFault depth Faulty n bs f =
     MapKindsFault bs f
     ⊎ ((key value : TKind)
-    × Later (λ front. front ≡ (16 * code key + code value) ∷ []) (PairsFault room Faulty n key value) bs f)
+    × Later (λ front. front ≡ (16 * code key + code value) ∷ []) (PairsFault depth Faulty n key value) bs f)
 
 abbrev pub MapFault : ℕ → (TKind → Faultiness) → Faultiness
-MapFault room Faulty bs f = SizeFault bs f ⊎ ((n : ℕ) × (0 < n) × Later (IsSize n) (MapBodyFault room Faulty n) bs f)
+MapFault depth Faulty bs f = SizeFault bs f ⊎ ((n : ℕ) × (0 < n) × Later (IsSize n) (MapBodyFault depth Faulty n) bs f)
 
--- a byte by whose distance the id after the last of `ids` is out of range
+-- the first byte of a field's head has a distance by which the id after the last of `ids` doesn't fit 16 bits
 abbrev pub TooFar : List ℤ → ℕ → Type 0
 TooFar ids b =
     (delta : ℕ) × (k : TKind) × (0 < delta) × (b ≡ 16 * delta + code k) × (small_id (last ids +ℤ pos delta) ≡ false)
 
--- the head of a field, where the struct has the fields `ids` before it
+-- the head of a field, after fields with the ids `ids`
 pub data FieldHeadFault (ids : List ℤ) (bs : List ℕ) (f : Fault) : Type 0 where
   no_field_head : NoByte bs f → FieldHeadFault ids bs f
   no_field_kind : WrongByte (λ b. (0 < b) × IsNoKind (b % 16)) WrongType bs f → FieldHeadFault ids bs f
@@ -127,40 +127,40 @@ pub data FieldHeadFault (ids : List ℤ) (bs : List ℕ) (f : Fault) : Type 0 wh
   id_again : (id : ℤ) (k : TKind) (front rest : List ℕ) → NamesField (last ids) id k front → is_among id ids ≡ true
       → bs ≡ front ++ rest → f ≡ (Repeated, length bs) → FieldHeadFault ids bs f
 
--- the fields fs are spelled, and the next one has a fault, or what stands for the stop byte
+-- the fields fs are spelled, and the next field or the stop byte has a fault
 abbrev pub FieldsFault : ℕ → (TKind → Faultiness) → List ℤ → Fields → Faultiness
-FieldsFault room Faulty ids no_fields bs f =
+FieldsFault depth Faulty ids no_fields bs f =
     FieldHeadFault ids bs f ⊎ ((id : ℤ) × (k : TKind) × Later (IsFieldHead ids id k) (Faulty k) bs f)
-FieldsFault room Faulty ids (field id t fs) bs f =
+FieldsFault depth Faulty ids (field id t fs) bs f =
     (k : TKind)
-    × Later (IsFieldHead ids id k) (Later (Spells room k t) (FieldsFault room Faulty (ids ++ id ∷ []) fs)) bs f
+    × Later (IsFieldHead ids id k) (Later (Spells depth k t) (FieldsFault depth Faulty (ids ++ id ∷ []) fs)) bs f
 
 abbrev pub StructFault : ℕ → (TKind → Faultiness) → Faultiness
-StructFault room Faulty bs f = (fs : Fields) × FieldsFault room Faulty [] fs bs f
+StructFault depth Faulty bs f = (fs : Fields) × FieldsFault depth Faulty [] fs bs f
 
--- nothing may begin here that holds others
+-- a struct, list, set or map begins here, and no level is left for it
 abbrev pub DepthFault : Faultiness
 DepthFault bs f = NoByte bs f ⊎ WrongByte (λ b. Unit {0}) Depth bs f
 
--- the fault of a value of a kind, where `room` more structs, lists, sets and maps may be open
+-- the faults of a field's value of a kind, where `depth` levels of structs, lists, sets and maps may be opened
 abbrev pub Faults : ℕ → TKind → Faultiness
-Faults room kind.True bs f = ⊥
-Faults room kind.False bs f = ⊥
-Faults room kind.I8 bs f = NoByte bs f
-Faults room kind.I16 bs f = NumberFault 65536 bs f
-Faults room kind.I32 bs f = NumberFault 4294967296 bs f
-Faults room kind.I64 bs f = NumberFault 18446744073709551616 bs f
-Faults room kind.Double bs f = TooFew 8 bs f
-Faults room kind.Binary bs f = BinaryFault bs f
+Faults depth kind.True bs f = ⊥
+Faults depth kind.False bs f = ⊥
+Faults depth kind.I8 bs f = NoByte bs f
+Faults depth kind.I16 bs f = NumberFault 65536 bs f
+Faults depth kind.I32 bs f = NumberFault 4294967296 bs f
+Faults depth kind.I64 bs f = NumberFault 18446744073709551616 bs f
+Faults depth kind.Double bs f = TooFew 8 bs f
+Faults depth kind.Binary bs f = BinaryFault bs f
 Faults zero kind.List bs f = DepthFault bs f
 Faults zero kind.Set bs f = DepthFault bs f
 Faults zero kind.Map bs f = DepthFault bs f
 Faults zero kind.Struct bs f = DepthFault bs f
-Faults (suc room) kind.List bs f = ListFault room (Faults room) bs f
-Faults (suc room) kind.Set bs f = ListFault room (Faults room) bs f
-Faults (suc room) kind.Map bs f = MapFault room (Faults room) bs f
-Faults (suc room) kind.Struct bs f = StructFault room (Faults room) bs f
+Faults (suc depth) kind.List bs f = ListFault depth (Faults depth) bs f
+Faults (suc depth) kind.Set bs f = ListFault depth (Faults depth) bs f
+Faults (suc depth) kind.Map bs f = MapFault depth (Faults depth) bs f
+Faults (suc depth) kind.Struct bs f = StructFault depth (Faults depth) bs f
 
--- bytes that should begin with a struct have the fault `why` at the offset `at`
+-- the bytes don't begin with a struct: they have the fault `why` at the offset `at`
 abbrev pub HasFault : List ℕ → ThriftFault → ℕ → Type 0
 HasFault bytes why at = (left : ℕ) × (at + left ≡ length bytes) × Faults 32 kind.Struct bytes (why, left)

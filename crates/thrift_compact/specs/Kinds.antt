@@ -1,9 +1,9 @@
--- The types of the compact protocol and their numbers.
+-- The kinds of values and the type codes that the compact protocol gives them.
 use Rattle.std.specs.Prelude.{ℕ, ◌==◌, if◌then◌else◌, Option, Some, None}
 use Rattle.thrift_compact.specs.declared.kind.TKind.{TKind}
 use Rattle.thrift_compact.specs.declared.kind.TKind.TheVariants as kind
 
--- the number of a type
+-- the type code of a kind
 abbrev pub code : TKind → ℕ
 code kind.True = 1
 code kind.False = 2
@@ -18,7 +18,7 @@ code kind.Set = 10
 code kind.Map = 11
 code kind.Struct = 12
 
--- the type of a number
+-- the kind with a type code
 abbrev pub of_code : ℕ → Option TKind
 of_code n =
     if n == 1 then Some kind.True

@@ -5,8 +5,6 @@ pub mod Faults
 pub mod Grammar
 pub mod Held
 pub mod Kinds
-pub mod Laws
-pub mod Opened
 pub mod Ordered
 pub mod Proper
 pub mod Reading

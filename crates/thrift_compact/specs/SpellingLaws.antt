@@ -1,4 +1,4 @@
--- The laws of the canonical spelling.
+-- Laws on the canonical spelling.
 use Rattle.std.specs.Prelude.{◌≡◌, ◌⊎◌, ℕ, ℤ, ◌<ℤ◌, List, [], ◌∷◌}
 use Rattle.thrift_compact.specs.declared.kind.TKind.{TKind}
 use Rattle.thrift_compact.specs.declared.kind.TKind.TheVariants as kind
@@ -13,13 +13,13 @@ abbrev pub CanonicalIsSpelled : Type 0
 CanonicalIsSpelled =
     (t : Tree) → kind_of_tree t ≡ kind.Struct → IsProper 32 t → FitsTypes t → Spells 32 kind.Struct (ordered t) (canonical t)
 
--- each id is below the next
+-- each id is less than the next
 abbrev pub AreAscending : List ℤ → Type 0
 AreAscending [] = Unit {0}
 AreAscending (id ∷ []) = Unit {0}
 AreAscending (id ∷ next ∷ ids) = (id <ℤ next) × AreAscending (next ∷ ids)
 
--- there is a field of this id whose value has the property
+-- one of the fields has this id and a value with the property
 abbrev pub HasField : ℤ → (Tree → Type 0) → Fields → Type 0
 HasField id P no_fields = ⊥
 HasField id P (field other t fs) = ((other ≡ id) × P t) ⊎ HasField id P fs
@@ -54,7 +54,7 @@ abbrev mutual
   PairsArranged (pair key value ps) qs =
       (k v : Tree) × (others : Pairs) × (qs ≡ pair k v others) × IsArranged key k × IsArranged value v × PairsArranged ps others
 
-  -- each of the fields stands among those, with its value arranged
+  -- each of the first fields is one of the second fields, with its value arranged
   pub FieldsStandIn : Fields → Fields → Type 0
   FieldsStandIn no_fields gs = Unit {0}
   FieldsStandIn (field id t fs) gs = HasField id (λ u. IsArranged t u) gs × FieldsStandIn fs gs
@@ -64,14 +64,14 @@ abbrev mutual
   IsFieldOf no_fields id v = ⊥
   IsFieldOf (field other t fs) id v = ((other ≡ id) × IsArranged t v) ⊎ IsFieldOf fs id v
 
--- what is spelled canonically is the tree itself with its fields in ascending order, none lost and none added
+-- the tree that is spelled canonically is the given tree with its fields in ascending order, none lost and none added
 abbrev pub OrderedIsArranged : Type 0
-OrderedIsArranged = (room : ℕ) (t : Tree) → IsProper room t → FitsTypes t → IsArranged t (ordered t)
+OrderedIsArranged = (depth : ℕ) (t : Tree) → IsProper depth t → FitsTypes t → IsArranged t (ordered t)
 
--- what bytes spell is proper, so a tree that was read can be spelled
+-- a tree that bytes spell is proper, so a tree that was read can be spelled
 abbrev pub SpelledIsProper : Type 0
-SpelledIsProper = (room : ℕ) (k : TKind) (t : Tree) (bs : List ℕ) → Spells room k t bs → IsProper room t
+SpelledIsProper = (depth : ℕ) (k : TKind) (t : Tree) (bs : List ℕ) → Spells depth k t bs → IsProper depth t
 
--- and fits its types
+-- a tree that bytes spell fits its types
 abbrev pub SpelledFits : Type 0
-SpelledFits = (room : ℕ) (k : TKind) (t : Tree) (bs : List ℕ) → AreBytes bs → Spells room k t bs → FitsTypes t
+SpelledFits = (depth : ℕ) (k : TKind) (t : Tree) (bs : List ℕ) → AreBytes bs → Spells depth k t bs → FitsTypes t

@@ -1,15 +1,15 @@
--- The text of a tree, for people to read.
+-- The text of a tree, as `pme thrift` prints it.
 use Rattle.std.specs.Prelude.{ℕ, ℤ, Bool, true, false, List, [], ◌∷◌, ◌++◌, codes}
 use Rattle.std.specs.Fmt.{signed_decimal}
 use Rattle.std.specs.List.{join_by}
 use Rattle.hex.specs.Hex.{encode_lower}
 use Rattle.thrift_compact.specs.Tree.{Tree, truth, int8, int16, int32, int64, double, binary, list, set, map, struct, Trees, no_trees, tree, Pairs, no_pairs, pair, Fields, no_fields, field}
 
--- texts with a comma and a blank between each two
+-- the texts, separated by a comma and a space
 abbrev pub joined : List (List ℕ) → List ℕ
 joined texts = join_by (λ text. text) (codes ", ") texts
 
--- what stands in front of a text among others
+-- the separator in front of a text, which the first one lacks
 abbrev pub comma : Bool → List ℕ
 comma true = []
 comma false = codes ", "

@@ -1,4 +1,4 @@
--- What a value of the code stands for: its tree. One step for each of the four types that lead back to themselves.
+-- The tree that a value of the code stands for. There is a step for each of the four mutually recursive types.
 use Rattle.std.specs.Prelude.{ℤ, List, [], ◌∷◌, map as map_list}
 use Rattle.thrift_compact.specs.declared.tree.TVal.{TVal, fold-TVal}
 use Rattle.thrift_compact.specs.declared.tree.TVal.TheOpen.{TVal-F, TList-F, TMap-F, TFields-F}
@@ -7,7 +7,7 @@ use Rattle.thrift_compact.specs.declared.tree.TMap.{TMap, fold-TMap}
 use Rattle.thrift_compact.specs.declared.tree.TFields.{TFields, fold-TFields}
 use Rattle.thrift_compact.specs.Tree.{Tree, truth, int8, int16, int32, int64, double, binary, list, set, map, struct, Trees, no_trees, tree, Pairs, no_pairs, pair, Fields, no_fields, field}
 
--- lists of parts as the trees' own lists
+-- lists of items, pairs and fields in the types of Tree
 abbrev pub trees_of : List Tree → Trees
 trees_of [] = no_trees
 trees_of (t ∷ ts) = tree t (trees_of ts)
@@ -42,7 +42,7 @@ map_step m = pairs_of m.pairs
 abbrev pub struct_step : TFields-F Tree Fields Trees Pairs → Fields
 struct_step s = fields_of s.fields
 
--- the tree of a value, and the parts of a list, a map and a struct
+-- the tree of a value, the items of a list, the pairs of a map, and the fields of a struct
 abbrev pub view : TVal → Tree
 view = fold-TVal Tree Fields Trees Pairs view_step struct_step list_step map_step
 
@@ -55,7 +55,7 @@ map_view = fold-TMap Tree Fields Trees Pairs view_step struct_step list_step map
 abbrev pub struct_view : TFields → Fields
 struct_view = fold-TFields Tree Fields Trees Pairs view_step struct_step list_step map_step
 
--- the same of plain lists of values, as loops meet them
+-- these views for the plain lists that the code's loops read
 abbrev pub trees_view : List TVal → Trees
 trees_view vs = trees_of (map_list view vs)
 

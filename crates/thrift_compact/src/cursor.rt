@@ -1,4 +1,4 @@
-// The bytes still to be read, and the parts that hold no others: bytes, varints, numbers, sizes, binaries, booleans.
+// A cursor over the unread bytes: reading bytes, varints, integers, sizes, doubles, binaries and booleans.
 ghost use Rattle.std.specs.Prelude.{◌≡◌, ◌<◌, ◌≤◌, length, OnOk, IfOk};
 ghost use Rattle.thrift_compact.specs.Answers.{Gives, Enters, refusal_of};
 ghost use Rattle.thrift_compact.specs.Reading.{byte_at, bytes_at, varint_at, size_at, int8_at, int16_at, int32_at, int64_at, binary_at, truth_at, zigzag as zigzag_of, signed_byte as signed_byte_of};
@@ -8,7 +8,7 @@ use pme_base::{OutOfMemory, ThriftFault};
 use std::alloc::{AllocError, AllocFailed};
 use std::marker::Model;
 
-/// Why a reading ended inside: a fault with the count of bytes that are left at its place, or want of memory.
+/// Why reading stopped: a fault, with the number of bytes from its place to the end, or a failed allocation.
 #[derive(Clone, Copy, Drop)]
 pub(crate) enum Stop {
     Fault(ThriftFault, usize),
@@ -16,7 +16,7 @@ pub(crate) enum Stop {
 }
 
 impl Stop {
-    /// The stop as a call tells it, where the whole input has `size` bytes.
+    /// Converts to the public error, which has the fault's offset. `size` is the length of the whole input in bytes.
     pub(crate) fn refusal(self, size: usize) -> ThriftRefusal
         ensures { result ≡ refusal_of size self }
     {
@@ -60,7 +60,7 @@ impl From<OutOfMemory> for Stop {
     }
 }
 
-/// The bytes still to be read. A contract sees it as their list.
+/// The unread bytes. A contract sees a cursor as the list of these bytes.
 #[derive(Drop)]
 pub(crate) struct Cursor<'a> {
     rest: &'a [u8],
@@ -81,19 +81,20 @@ impl<'a> Cursor<'a> {
         Cursor { rest: bytes }
     }
 
-    /// How many bytes are left.
+    /// The number of unread bytes.
     pub(crate) fn left(&self) -> usize
         ensures { result ≡ length self.now }
     {
         self.rest.len()
     }
 
-    /// Enters a struct, a list, a set or a map where `room` more may be opened: how many may be opened in it.
-    pub(crate) fn enter(&self, room: u32) -> Result<u32, Stop>
-        ensures { Enters result room self.now }
+    /// Enters a struct, list, set or map where `depth_left` levels of nesting are left, and returns the number that is left
+    /// inside it. If `depth_left` is 0 it refuses: as Depth, or as End if no byte is left.
+    pub(crate) fn enter(&self, depth_left: u32) -> Result<u32, Stop>
+        ensures { Enters result depth_left self.now }
     {
-        if room > 0 {
-            Ok(room - 1)
+        if depth_left > 0 {
+            Ok(depth_left - 1)
         } else if self.rest.is_empty() {
             Err(Stop::Fault(ThriftFault::End, 0))
         } else {
@@ -101,6 +102,7 @@ impl<'a> Cursor<'a> {
         }
     }
 
+    /// Reads one byte.
     #[inline(always)]
     pub(crate) fn byte(&mut self) -> Result<u8, Stop>
         ensures value { Gives (λ b. b) result self.new (byte_at self.old) }
@@ -115,7 +117,7 @@ impl<'a> Cursor<'a> {
         }
     }
 
-    /// So many bytes, lent from the input.
+    /// Reads `count` bytes, as a slice of the input.
     pub(crate) fn bytes(&mut self, count: usize) -> Result<&'a [u8], Stop>
         ensures value { Gives (λ bytes. bytes.now) result self.new (bytes_at count self.old) }
         ensures shorter { OnOk result (length self.new ≤ length self.old) }
@@ -128,7 +130,7 @@ impl<'a> Cursor<'a> {
         Ok(front)
     }
 
-    /// A varint: seven bits a byte, the least first, in at most ten bytes and 64 bits.
+    /// Reads a varint: seven bits per byte, least significant first, at most ten bytes and 64 bits.
     #[inline(always)]
     #[tactic(auto, unfolding(crate::specs::Reading::varint_within))]
     pub(crate) fn varint(&mut self) -> Result<u64, Stop>
@@ -144,7 +146,7 @@ impl<'a> Cursor<'a> {
         }
     }
 
-    // A varint of any length.
+    // Reads a varint byte by byte.
     fn long_varint(&mut self) -> Result<u64, Stop>
         ensures value { Gives (λ n. n) result self.new (varint_at self.old) }
         ensures shorter { OnOk result (length self.new < length self.old) }
@@ -168,7 +170,7 @@ impl<'a> Cursor<'a> {
         }
     }
 
-    /// A size or a length, below 2^31.
+    /// Reads a size or a length; Range where it is 2^31 or more.
     #[inline]
     pub(crate) fn size(&mut self) -> Result<u32, Stop>
         ensures value { Gives (λ n. n) result self.new (size_at self.old) }
@@ -184,7 +186,7 @@ impl<'a> Cursor<'a> {
         }
     }
 
-    /// A whole number of 16 bits, by its zigzag varint.
+    /// Reads a 16-bit integer as a zigzag varint; Range where it has more bits.
     pub(crate) fn int16(&mut self) -> Result<i16, Stop>
         ensures value { Gives (λ n. n) result self.new (int16_at self.old) }
         ensures shorter { OnOk result (length self.new < length self.old) }
@@ -192,13 +194,13 @@ impl<'a> Cursor<'a> {
         let start = self.rest.len();
         let number = self.varint()?;
         if number < 65_536 {
-            Ok(zigzag(number) as i16)
+            Ok(zigzag_decode(number) as i16)
         } else {
             Err(Stop::Fault(ThriftFault::Range, start))
         }
     }
 
-    /// A whole number of 32 bits, by its zigzag varint.
+    /// Reads a 32-bit integer as a zigzag varint; Range where it has more bits.
     pub(crate) fn int32(&mut self) -> Result<i32, Stop>
         ensures value { Gives (λ n. n) result self.new (int32_at self.old) }
         ensures shorter { OnOk result (length self.new < length self.old) }
@@ -206,22 +208,22 @@ impl<'a> Cursor<'a> {
         let start = self.rest.len();
         let number = self.varint()?;
         if number < 4_294_967_296 {
-            Ok(zigzag(number) as i32)
+            Ok(zigzag_decode(number) as i32)
         } else {
             Err(Stop::Fault(ThriftFault::Range, start))
         }
     }
 
-    /// A whole number of 64 bits, by its zigzag varint.
+    /// Reads a 64-bit integer as a zigzag varint.
     pub(crate) fn int64(&mut self) -> Result<i64, Stop>
         ensures value { Gives (λ n. n) result self.new (int64_at self.old) }
         ensures shorter { OnOk result (length self.new < length self.old) }
     {
         let number = self.varint()?;
-        Ok(zigzag(number))
+        Ok(zigzag_decode(number))
     }
 
-    /// A whole number of one byte, in two's complement.
+    /// Reads an 8-bit integer, one byte in two's complement.
     pub(crate) fn int8(&mut self) -> Result<i8, Stop>
         ensures value { Gives (λ n. n) result self.new (int8_at self.old) }
         ensures shorter { OnOk result (length self.new < length self.old) }
@@ -230,7 +232,7 @@ impl<'a> Cursor<'a> {
         Ok(signed_byte(byte))
     }
 
-    /// The eight bytes of a double.
+    /// Reads the 8 bytes of a double.
     pub(crate) fn double(&mut self) -> Result<[u8; 8], Stop>
         ensures value { Gives (λ bytes. bytes) result self.new (bytes_at 8 self.old) }
         ensures shorter { OnOk result (length self.new < length self.old) }
@@ -244,7 +246,7 @@ impl<'a> Cursor<'a> {
         }
     }
 
-    /// A length and so many bytes, lent from the input.
+    /// Reads a binary, which is a length and its bytes. The result is a slice of the input.
     pub(crate) fn binary(&mut self) -> Result<&'a [u8], Stop>
         ensures value { Gives (λ bytes. bytes.now) result self.new (binary_at self.old) }
         ensures shorter { OnOk result (length self.new < length self.old) }
@@ -253,7 +255,7 @@ impl<'a> Cursor<'a> {
         self.bytes(size as usize)
     }
 
-    /// A boolean of a list, a set or a map: 1 is true, 0 and 2 are false.
+    /// Reads a boolean of a list, set or map: the byte 1 is true, 0 and 2 are false, and others are WrongType.
     #[inline]
     pub(crate) fn truth(&mut self) -> Result<bool, Stop>
         ensures value { Gives (λ truth. truth) result self.new (truth_at self.old) }
@@ -269,15 +271,15 @@ impl<'a> Cursor<'a> {
     }
 }
 
-// The whole number of a zigzag number.
-fn zigzag(number: u64) -> i64
+// Decodes a zigzag number: 0, 1, 2, 3 stand for 0, -1, 1, -2.
+fn zigzag_decode(number: u64) -> i64
     ensures { result ≡ zigzag_of number }
 {
     let half = (number / 2) as i64;
     if number % 2 == 0 { half } else { -1 - half }
 }
 
-// A byte in two's complement.
+// Decodes a byte in two's complement.
 fn signed_byte(byte: u8) -> i8
     ensures { result ≡ signed_byte_of byte }
 {

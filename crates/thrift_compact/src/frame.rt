@@ -1,8 +1,9 @@
-// What is open around the place of a typed reader.
+// The structs and lists that a typed reader has open, and the head of a field.
 use crate::ids::Ids;
 use crate::kind::TKind;
 
-/// The innermost open part: none, a struct with the ids of its fields so far, or a list.
+/// A part that a typed reader has open: a struct, with the ids of the fields read so far, or a list or set. Outside means
+/// that no part is open.
 #[derive(Drop)]
 pub(crate) enum Frame {
     Outside,
@@ -10,7 +11,7 @@ pub(crate) enum Frame {
     List,
 }
 
-/// The head of a field: its id, and the kind of its value.
+/// The head of a field: its id and the kind of its value.
 #[derive(Clone, Copy, Debug, PartialEq, Eq, Drop)]
 pub struct FieldHead {
     pub id: i16,

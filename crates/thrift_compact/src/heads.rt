@@ -1,17 +1,17 @@
-// The heads of lists, maps and fields: what types come, how many, and under which id.
+// Reading the heads of lists, sets, maps and fields: element types, counts and field ids.
 ghost use Rattle.std.specs.Prelude.{◌≡◌, ◌<◌, ◌≤◌, length, [], ◌∷◌, ◌++◌, OnOk};
 ghost use Rattle.thrift_compact.specs.Answers.{Gives, Answer, Adds};
 ghost use Rattle.thrift_compact.specs.Kinds.{of_code};
-ghost use Rattle.thrift_compact.specs.Reading.{known as known_kind, list_size as list_size_at, list_head as list_head_at, map_kinds as map_kinds_at, id_at, fresh as fresh_id, field_head as field_head_at};
+ghost use Rattle.thrift_compact.specs.Reading.{known_kind, list_size as list_size_at, list_head as list_head_at, map_kinds as map_kinds_at, id_at, new_id, field_head as field_head_at};
 
 use crate::cursor::{Cursor, Stop};
 use crate::ids::Ids;
 use crate::kind::TKind;
 use pme_base::ThriftFault;
 
-/// The kind of a number, named by the byte before which `left` bytes were left.
+/// Returns the kind with this type code, or WrongType. `left` is the number of bytes from the code's byte to the end.
 #[inline]
-fn known(left: usize, code: u8) -> Result<TKind, Stop>
+fn kind_of_code(left: usize, code: u8) -> Result<TKind, Stop>
     ensures { Answer (λ kind. kind) result (known_kind left (of_code code)) }
 {
     match TKind::of_code(code) {
@@ -20,7 +20,7 @@ fn known(left: usize, code: u8) -> Result<TKind, Stop>
     }
 }
 
-/// How many elements a list has, by the high half of its first byte.
+/// Reads the number of elements of a list: `high`, the high half of its first byte, or a varint where `high` is 15.
 fn list_size(cursor: &mut Cursor<'_>, high: u8) -> Result<u32, Stop>
     ensures value { Gives (λ n. n) result cursor.new (list_size_at high cursor.old) }
     ensures shorter { OnOk result (length cursor.new ≤ length cursor.old) }
@@ -32,32 +32,32 @@ fn list_size(cursor: &mut Cursor<'_>, high: u8) -> Result<u32, Stop>
     }
 }
 
-/// The head of a list or a set: the kind of its elements, and how many there are.
+/// Reads the head of a list or a set: the kind of its elements and their number.
 pub(crate) fn list_head(cursor: &mut Cursor<'_>) -> Result<(TKind, u32), Stop>
     ensures value { Gives (λ head. head) result cursor.new (list_head_at cursor.old) }
     ensures shorter { OnOk result (length cursor.new < length cursor.old) }
 {
     let start = cursor.left();
     let byte = cursor.byte()?;
-    let kind = known(start, byte % 16)?;
+    let kind = kind_of_code(start, byte % 16)?;
     let count = list_size(cursor, byte / 16)?;
     Ok((kind, count))
 }
 
-/// The kinds of a map's keys and of its values.
+/// Reads the byte with the kinds of a map's keys and values.
 pub(crate) fn map_kinds(cursor: &mut Cursor<'_>) -> Result<(TKind, TKind), Stop>
     ensures value { Gives (λ kinds. kinds) result cursor.new (map_kinds_at cursor.old) }
     ensures shorter { OnOk result (length cursor.new < length cursor.old) }
 {
     let start = cursor.left();
     let byte = cursor.byte()?;
-    let key = known(start, byte / 16)?;
-    let value = known(start, byte % 16)?;
+    let key = kind_of_code(start, byte / 16)?;
+    let value = kind_of_code(start, byte % 16)?;
     Ok((key, value))
 }
 
-/// The id of a field: `delta` after the one before, or where that is 0 a number of its own. `left` bytes were left
-/// before the field's byte.
+/// Reads the id of a field: the previous id plus `delta`, or where `delta` is 0 a zigzag varint. `before` is the previous
+/// id, and `left` the number of bytes from the field's first byte to the end.
 #[inline]
 fn field_id(cursor: &mut Cursor<'_>, before: i16, left: usize, delta: u8) -> Result<i16, Stop>
     ensures value { Gives (λ id. id) result cursor.new (id_at before left delta cursor.old) }
@@ -74,10 +74,11 @@ fn field_id(cursor: &mut Cursor<'_>, before: i16, left: usize, delta: u8) -> Res
     }
 }
 
-/// Takes an id that the struct doesn't have yet.
+/// Appends `id` to the struct's ids, or refuses it as Repeated if they contain it. `left` is the number of bytes from the
+/// field's first byte to the end.
 #[inline]
-fn take_fresh(ids: &mut Ids, id: i16, left: usize) -> Result<(), Stop>
-    ensures value { Answer (λ _. id) result (fresh_id left id ids.old) }
+fn append_new_id(ids: &mut Ids, id: i16, left: usize) -> Result<(), Stop>
+    ensures value { Answer (λ _. id) result (new_id left id ids.old) }
     ensures taken { OnOk result (ids.new ≡ ids.old ++ id ∷ []) }
 {
     if ids.has(id) {
@@ -87,7 +88,7 @@ fn take_fresh(ids: &mut Ids, id: i16, left: usize) -> Result<(), Stop>
     Ok(())
 }
 
-/// The head of a struct's next field, its id and its kind; None at the stop byte. A new id joins the struct's ids.
+/// Reads the head of a struct's next field and appends its id to `ids`. At the stop byte the answer is None.
 pub(crate) fn field_head(
     cursor: &mut Cursor<'_>,
     ids: &mut Ids,
@@ -101,8 +102,8 @@ pub(crate) fn field_head(
     if byte == 0 {
         return Ok(None);
     }
-    let kind = known(start, byte % 16)?;
+    let kind = kind_of_code(start, byte % 16)?;
     let id = field_id(cursor, ids.last(), start, byte / 16)?;
-    take_fresh(ids, id, start)?;
+    append_new_id(ids, id, start)?;
     Ok(Some((id, kind)))
 }

@@ -1,4 +1,4 @@
-// The ids of a struct's fields so far.
+// The ids of a struct's fields that were read so far; a repeated id is refused by them.
 ghost use Rattle.std.specs.Prelude.{◌≡◌, true, false, ◌<◌, ◌≤◌, [], ◌∷◌, ◌++◌, length, OnOk, OnErr, IfOk};
 ghost use Rattle.thrift_compact.specs.Held.{ids_held};
 ghost use Rattle.thrift_compact.specs.Reading.{is_among, last as last_of};
@@ -8,11 +8,11 @@ use std::alloc::Global;
 use std::collections::BTreeSet;
 use std::marker::Model;
 
-/// So many ids are searched one by one.
+/// The number of ids that are kept in an array and searched one by one.
 const FEW: usize = 32;
 
-/// The ids of a struct's fields so far. A contract sees them as a list in the order in which they came. An id above
-/// all others is known to be new at once, and the first 32 ids take no memory.
+/// The ids of a struct's fields that were read so far. A contract sees them as a list in the order of reading. An id
+/// greater than all others is known to be new without a search, and the first 32 ids need no allocation.
 #[derive(Drop)]
 pub(crate) struct Ids {
     alloc: Global,
@@ -52,7 +52,7 @@ impl Ids {
         }
     }
 
-    /// The last id, or 0 where there is none.
+    /// The last id, or 0 if there is none.
     #[inline(always)]
     pub(crate) fn last(&self) -> i16
         ensures { result ≡ last_of self.now }
@@ -60,7 +60,7 @@ impl Ids {
         self.last
     }
 
-    /// Whether the id came before.
+    /// Whether `id` is one of the ids.
     #[inline(always)]
     pub(crate) fn has(&self, id: i16) -> bool
         ensures { result ≡ is_among id self.now }
@@ -68,6 +68,7 @@ impl Ids {
         id as i32 <= self.greatest && self.held.has(id)
     }
 
+    /// Appends `id`. On OutOfMemory the ids are unchanged.
     #[inline(always)]
     pub(crate) fn push(&mut self, id: i16) -> Result<(), OutOfMemory>
         ensures ok { OnOk result (self.new ≡ self.old ++ id ∷ []) }
@@ -110,7 +111,7 @@ impl Held {
     }
 }
 
-/// Up to 32 ids, in place.
+/// At most 32 ids, in an array.
 #[derive(Drop)]
 struct Few {
     items: [i16; FEW],
@@ -150,7 +151,7 @@ impl Few {
         holds(self.as_slice(), id)
     }
 
-    /// Takes one more id; false where there is no room for it.
+    /// Appends `id` and returns true, or returns false where the array is full.
     #[inline(always)]
     fn push(&mut self, id: i16) -> bool
         ensures taken { result ≡ true → self.new ≡ self.old ++ id ∷ [] }
@@ -166,7 +167,7 @@ impl Few {
     }
 }
 
-/// Any number of ids, with an index of them.
+/// Any number of ids: a list that keeps their order, and a set of the same ids for the search.
 #[derive(Drop)]
 struct Many {
     items: Vec<i16>,
@@ -195,7 +196,7 @@ impl Many {
         }
     }
 
-    /// The same ids in this form.
+    /// Returns a copy of `ids` in this form.
     fn of(alloc: Global, ids: &[i16]) -> Result<Many, OutOfMemory>
         ensures { IfOk result (λ many. many ≡ ids.now) }
     {

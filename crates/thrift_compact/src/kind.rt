@@ -1,8 +1,9 @@
+// The types of values in the compact protocol, and their codes.
 ghost use Rattle.std.specs.Prelude.{◌≡◌};
 ghost use Rattle.thrift_compact.specs.Kinds as kinds;
 
-/// The type of a field's value, with the number that the compact protocol gives it (1 to 12).
-/// The truth of a boolean field is its kind.
+/// The type of a value, in the order of the protocol's type codes 1 to 12. A boolean field has no value bytes: its
+/// kind, True or False, is its value.
 #[derive(Clone, Copy, Debug, PartialEq, Eq, Drop)]
 pub enum TKind {
     True,
@@ -20,7 +21,7 @@ pub enum TKind {
 }
 
 impl TKind {
-    /// The number of the kind, from 1 to 12.
+    /// The type code of the kind, from 1 to 12.
     pub(crate) fn code(self) -> u8
         ensures { result ≡ kinds.code self }
     {
@@ -40,7 +41,7 @@ impl TKind {
         }
     }
 
-    /// The kind of a number; None exactly where it isn't from 1 to 12.
+    /// The kind with this type code; None for a code outside 1 to 12.
     pub(crate) fn of_code(code: u8) -> Option<TKind>
         ensures { result ≡ kinds.of_code code }
     {

@@ -1,5 +1,4 @@
-// The compact protocol of Apache Thrift: trees of values and their bytes. A reader that builds a tree, one that
-// walks the bytes by types without building one, the canonical spelling, a writer of it, and a tree's text.
+//! Apache Thrift's compact protocol: a reader that builds a tree, a typed reader, a canonical writer, and a tree's text.
 #![tactic(auto)]
 
 mod canonical;

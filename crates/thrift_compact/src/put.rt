@@ -1,10 +1,11 @@
+// Appending varints, integers, and the heads of lists and fields.
 ghost use Rattle.std.specs.Prelude.{◌≡◌, ◌≤◌, ◌∷◌, ◌++◌, [], OnOk, OnErr, IfSome};
 ghost use Rattle.thrift_compact.specs.Spelling.{varint_of, zigzag_of, number_of, byte_of, list_head_of, field_head_of, short_distance_of, Extends};
 
 use crate::kind::TKind;
 use pme_base::{Bytes, OutOfMemory};
 
-/// Adds the shortest varint of `n`: seven bits a byte, the least first.
+/// Appends the shortest varint of `n`: seven bits per byte, least significant first.
 pub(crate) fn put_varint(into: &mut Bytes, n: u64) -> Result<(), OutOfMemory>
     ensures ok { OnOk result (into.new ≡ into.old ++ varint_of n) }
     ensures kept { OnErr result (Extends into.old into.new) }
@@ -17,8 +18,8 @@ pub(crate) fn put_varint(into: &mut Bytes, n: u64) -> Result<(), OutOfMemory>
     into.push(rest as u8)
 }
 
-/// The zigzag number: 0, -1, 1, -2 and so on by 0, 1, 2, 3.
-pub(crate) fn zigzag(z: i64) -> u64
+/// Encodes an integer as a zigzag number: 0, -1, 1, -2 become 0, 1, 2, 3.
+pub(crate) fn zigzag_encode(z: i64) -> u64
     ensures { result ≡ zigzag_of z }
 {
     if z < 0 {
@@ -28,15 +29,15 @@ pub(crate) fn zigzag(z: i64) -> u64
     }
 }
 
-/// Adds a number as the varint of its zigzag number.
+/// Appends an integer as a zigzag varint.
 pub(crate) fn put_number(into: &mut Bytes, z: i64) -> Result<(), OutOfMemory>
     ensures ok { OnOk result (into.new ≡ into.old ++ number_of z) }
     ensures kept { OnErr result (Extends into.old into.new) }
 {
-    put_varint(into, zigzag(z))
+    put_varint(into, zigzag_encode(z))
 }
 
-/// Adds a number of 8 bits in two's complement.
+/// Appends an 8-bit integer, one byte in two's complement.
 pub(crate) fn put_int8(into: &mut Bytes, z: i8) -> Result<(), OutOfMemory>
     ensures ok { OnOk result (into.new ≡ into.old ++ byte_of z ∷ []) }
     ensures kept { OnErr result (Extends into.old into.new) }
@@ -49,7 +50,7 @@ pub(crate) fn put_int8(into: &mut Bytes, z: i8) -> Result<(), OutOfMemory>
     into.push(byte)
 }
 
-/// Adds the head of a list or a set of `count` elements.
+/// Appends the head of a list or a set of `count` elements.
 pub(crate) fn put_list_head(into: &mut Bytes, kind: TKind, count: u64) -> Result<(), OutOfMemory>
     ensures ok { OnOk result (into.new ≡ into.old ++ list_head_of kind count) }
     ensures kept { OnErr result (Extends into.old into.new) }
@@ -62,7 +63,7 @@ pub(crate) fn put_list_head(into: &mut Bytes, kind: TKind, count: u64) -> Result
     }
 }
 
-/// The distance of two ids where the head of a field has it in its first byte: from 1 to 15.
+/// The distance from `before` to `id` where it is 1 to 15, so that the first byte of a field's head can hold it.
 fn short_distance(before: i16, id: i16) -> Option<u8>
     ensures value { result ≡ short_distance_of before id }
     ensures small { IfSome result (λ d. d ≤ 15) }
@@ -75,7 +76,7 @@ fn short_distance(before: i16, id: i16) -> Option<u8>
     }
 }
 
-/// Adds the head of a field, where `before` is the id of the field before it, or 0.
+/// Appends the head of a field. `before` is the id of the previous field, or 0 for the first.
 pub(crate) fn put_field_head(
     into: &mut Bytes,
     before: i16,

@@ -1,10 +1,10 @@
-// A typed reader: its caller says what it expects, and nothing is built.
+// A typed reader: the caller says which value it expects next, and no tree is built.
 ghost use Rattle.std.specs.Prelude.{◌≡◌, ◌≢◌, ℕ, ◌-◌, ◌<◌, ◌≤◌, [], ◌∷◌, length, OnOk, IfErr};
-ghost use Rattle.thrift_compact.specs.Answers.{Gives, passed};
+ghost use Rattle.thrift_compact.specs.Answers.{Gives, skipped};
 ghost use Rattle.thrift_compact.specs.declared.frame.Frame.TheVariants as frame;
 ghost use Rattle.thrift_compact.specs.Reading.{element as element_at, value as value_at, field_head as field_head_at};
-ghost use Rattle.thrift_compact.specs.Standing.{room, IsStruct, ids_of, head_of, TakesHead, IsList, BeginsStruct, BeginsList, ReadsField, Closes, GivesAt, Skips, IsWholeKind, whole_tree};
-ghost use Rattle.thrift_compact.specs.Tree.{binary as binary_tree};
+ghost use Rattle.thrift_compact.specs.Standing.{depth_left, IsStruct, ids_of, head_of, TakesHead, IsList, BeginsStruct, BeginsList, ReadsField, Closes, GivesAt, Skips, IsWholeKind};
+ghost use Rattle.thrift_compact.specs.Tree.{binary as binary_tree, whole_tree};
 
 use crate::cursor::{Cursor, Stop};
 use crate::frame::{FieldHead, Frame};
@@ -18,8 +18,8 @@ use std::collections::VecDeque;
 use std::marker::Model;
 use std::mem;
 
-/// Reads a struct of the compact protocol from the front of its bytes, part by part. Every refusal tells its offset
-/// from the front of all the bytes. After a refusal no call on the reader says anything of the bytes.
+/// Reads the struct at the start of its bytes, one part a call. A refusal reports the fault's byte offset from the start of
+/// all the bytes. After a refusal the answers of further calls mean nothing.
 #[derive(Drop)]
 pub struct Reader<'a> {
     alloc: Global,
@@ -40,9 +40,10 @@ impl<'a> Model for Reader<'a> {
 }
 
 impl<'a> Reader<'a> {
-    /// A reader at the front of `bytes`; it takes no memory yet.
+    /// Returns a reader at the start of `bytes`. It allocates nothing.
     pub fn new(alloc: Global, bytes: &'a [u8]) -> Reader<'a>
-        ensures { result ≡ record { rest = bytes.now; size = length bytes.now; inner = frame.Outside; outer = [] } }
+        ensures { result ≡
+            record { rest = bytes.now; size = length bytes.now; inner = frame.Outside; outer = [] } }
     {
         Reader {
             alloc,
@@ -53,25 +54,26 @@ impl<'a> Reader<'a> {
         }
     }
 
-    /// How many bytes were read.
+    /// The number of bytes that were read.
     pub fn offset(&self) -> usize
         ensures { result ≡ self.now.size - length self.now.rest }
     {
         self.size.saturating_sub(self.cursor.left())
     }
 
-    /// Opens a struct; `field` then reads its fields.
+    /// Opens a struct, whose fields are then read by `field`. It is refused where 32 structs, lists and sets are open
+    /// already: as Depth, or as End if no byte is left.
     pub fn struct_begin(&mut self) -> Result<(), ThriftRefusal>
         ensures value { BeginsStruct self.old self.new result }
         ensures shorter { OnOk result (length self.new.rest ≤ length self.old.rest) }
     {
-        if let Err(stop) = self.cursor.enter(self.room()) {
+        if let Err(stop) = self.cursor.enter(self.depth_left()) {
             return Err(stop.refusal(self.size));
         }
         self.push(Frame::Struct(Ids::new(self.alloc)))
     }
 
-    /// The head of the next field of the innermost struct; None at its stop byte, which closes the struct.
+    /// Reads the head of the next field of the innermost struct. At the stop byte it closes the struct and returns None.
     pub fn field(&mut self) -> Result<Option<FieldHead>, ThriftRefusal>
         requires { IsStruct self.old.inner }
         ensures value { ReadsField self.old self.new result }
@@ -87,10 +89,11 @@ impl<'a> Reader<'a> {
         }
     }
 
-    /// A whole number of a kind from I8 to I64.
+    /// Reads an integer of a kind from I8 to I64.
     pub fn whole(&mut self, kind: TKind) -> Result<i64, ThriftRefusal>
         requires { IsWholeKind kind }
-        ensures value { GivesAt (whole_tree kind) self.old self.new result (value_at (room self.old) kind self.old.rest) }
+        ensures value { GivesAt (whole_tree kind) self.old self.new result
+            (value_at (depth_left self.old) kind self.old.rest) }
         ensures shorter { OnOk result (length self.new.rest < length self.old.rest) }
     {
         match whole_at(&mut self.cursor, kind) {
@@ -99,9 +102,10 @@ impl<'a> Reader<'a> {
         }
     }
 
-    /// The bytes of a binary, lent from the input.
+    /// Reads a binary, as a slice of the input.
     pub fn binary(&mut self) -> Result<&'a [u8], ThriftRefusal>
-        ensures value { GivesAt (λ bytes. binary_tree bytes.now) self.old self.new result (value_at (room self.old) TKind.Binary self.old.rest) }
+        ensures value { GivesAt (λ bytes. binary_tree bytes.now) self.old self.new result
+            (value_at (depth_left self.old) TKind.Binary self.old.rest) }
         ensures shorter { OnOk result (length self.new.rest < length self.old.rest) }
     {
         let bytes = match self.cursor.binary() {
@@ -111,12 +115,13 @@ impl<'a> Reader<'a> {
         Ok(bytes)
     }
 
-    /// Opens a list or a set: the kind of its elements, and how many there are.
+    /// Opens a list or a set and returns the kind of its elements and their number. The caller reads or skips each element
+    /// and then calls `list_end`.
     pub fn list_begin(&mut self) -> Result<(TKind, u32), ThriftRefusal>
         ensures value { BeginsList self.old self.new result }
         ensures shorter { OnOk result (length self.new.rest < length self.old.rest) }
     {
-        if let Err(stop) = self.cursor.enter(self.room()) {
+        if let Err(stop) = self.cursor.enter(self.depth_left()) {
             return Err(stop.refusal(self.size));
         }
         let head = match list_head(&mut self.cursor) {
@@ -127,38 +132,39 @@ impl<'a> Reader<'a> {
         Ok(head)
     }
 
-    /// Passes a value of a kind. True and False take no byte, as in a field.
+    /// Skips the value of a field. True and False take no byte there.
     pub fn skip(&mut self, kind: TKind) -> Result<(), ThriftRefusal>
         ensures value { Skips self.old self.new kind result }
         ensures shorter { OnOk result (length self.new.rest ≤ length self.old.rest) }
     {
-        let room = self.room();
-        if let Err(stop) = skip_value(self.alloc, &mut self.cursor, room, kind) {
+        let depth_left = self.depth_left();
+        if let Err(stop) = skip_value(self.alloc, &mut self.cursor, depth_left, kind) {
             return Err(stop.refusal(self.size));
         }
         Ok(())
     }
 
-    /// Passes an element of a list or a set. A boolean takes a byte there.
+    /// Skips an element of a list or a set. A boolean takes one byte there.
     pub fn skip_element(&mut self, kind: TKind) -> Result<(), ThriftRefusal>
-        ensures value { GivesAt (λ u. u) self.old self.new result (passed (element_at (value_at (room self.old)) kind self.old.rest)) }
+        ensures value { GivesAt (λ u. u) self.old self.new result
+            (skipped (element_at (value_at (depth_left self.old)) kind self.old.rest)) }
         ensures shorter { OnOk result (length self.new.rest ≤ length self.old.rest) }
     {
-        let room = self.room();
-        match skip_element(self.alloc, &mut self.cursor, room, kind) {
+        let depth_left = self.depth_left();
+        match skip_element(self.alloc, &mut self.cursor, depth_left, kind) {
             Ok(()) => Ok(()),
             Err(stop) => Err(stop.refusal(self.size)),
         }
     }
 
-    // How many more structs, lists, sets and maps may be opened.
-    fn room(&self) -> u32
-        ensures { result ≡ room self.now }
+    // How many levels of structs, lists, sets and maps may still be opened.
+    fn depth_left(&self) -> u32
+        ensures { result ≡ depth_left self.now }
     {
         32u32.saturating_sub(self.outer.len().min(32) as u32)
     }
 
-    // Opens a part within what was open.
+    // Opens a part inside the innermost one.
     fn push(&mut self, opened: Frame) -> Result<(), ThriftRefusal>
         requires { opened ≢ frame.Outside }
         ensures rest { OnOk result (self.new.rest ≡ self.old.rest) }
@@ -175,7 +181,7 @@ impl<'a> Reader<'a> {
         Ok(())
     }
 
-    /// Closes the list; its elements were read.
+    /// Closes the innermost list or set, after its elements were read.
     pub fn list_end(&mut self)
         requires { IsList self.old.inner }
         ensures rest { self.new.rest ≡ self.old.rest }
@@ -184,7 +190,7 @@ impl<'a> Reader<'a> {
         self.close();
     }
 
-    // Closes the innermost open part.
+    // Closes the innermost part.
     fn close(&mut self)
         requires { self.old.inner ≢ frame.Outside }
         ensures rest { self.new.rest ≡ self.old.rest }
@@ -196,7 +202,7 @@ impl<'a> Reader<'a> {
     }
 }
 
-// The head of the next field of a struct.
+// Reads the head of the next field of the struct `inner`.
 fn next_head(cursor: &mut Cursor<'_>, inner: &mut Frame) -> Result<Option<FieldHead>, Stop>
     requires { IsStruct inner.old }
     ensures value { Gives head_of result cursor.new (field_head_at (ids_of inner.old) cursor.old) }
@@ -214,10 +220,11 @@ fn next_head(cursor: &mut Cursor<'_>, inner: &mut Frame) -> Result<Option<FieldH
     }
 }
 
-// A whole number of a kind.
+// Reads an integer of a kind from I8 to I64.
 fn whole_at(cursor: &mut Cursor<'_>, kind: TKind) -> Result<i64, Stop>
     requires { IsWholeKind kind }
-    ensures value { (depth : ℕ) → Gives (whole_tree kind) result cursor.new (value_at depth kind cursor.old) }
+    ensures value { (depth : ℕ) →
+        Gives (whole_tree kind) result cursor.new (value_at depth kind cursor.old) }
     ensures shorter { OnOk result (length cursor.new < length cursor.old) }
 {
     match kind {

@@ -1,13 +1,14 @@
+// The error of reading the compact protocol.
 ghost use Rattle.std.specs.Prelude.{◌≡◌};
 
 use pme_base::{OutOfMemory, ThriftFault};
 use std::alloc::{AllocError, AllocFailed};
 
-/// Why a reading of the compact protocol ended.
+/// Why bytes of the compact protocol could not be read.
 #[derive(Clone, Copy, Debug, PartialEq, Eq, Drop)]
 pub enum ThriftRefusal {
-    /// The bytes have the fault `why` at the offset `at`, and none before it.
+    /// The first fault of the bytes is `why`, at the byte offset `at`.
     Bad { at: u64, why: ThriftFault },
-    /// The reading needed memory that there wasn't.
+    /// An allocation failed.
     OutOfMemory,
 }

@@ -1,3 +1,4 @@
+// The text of a tree.
 ghost use Rattle.std.specs.Prelude.{◌≡◌, ◌∷◌, [], ◌++◌, OnOk, OnErr};
 ghost use Rattle.std.specs.Fmt.{signed_decimal};
 ghost use Rattle.std.specs.Io.{StartsWith};
@@ -9,10 +10,10 @@ use crate::tree::{TFields, TList, TMap, TVal};
 use itoa::Buffer;
 use pme_base::{Bytes, OutOfMemory};
 
-/// Adds the text of a tree, without a line feed. A struct is `{1: value, 2: value}` in the order of its bytes, a
-/// list `[value, value]`, a set `<value, value>`, a map `(key=>value, key=>value)`. Numbers are decimal, booleans
-/// `true` and `false`; a binary is `x` and its bytes in hex, a double `d` and its 8 bytes in hex.
-/// Where memory is refused, some of the text may stand behind the old bytes.
+/// Appends the text of a tree to `into`, without a line feed. A struct is `{1: value, 2: value}` with its fields in stored
+/// order, a list `[value, value]`, a set `<value, value>`, a map `(key=>value, key=>value)`. Numbers are decimal,
+/// booleans `true` and `false`; a binary is `x` and its bytes in lower-case hex, a double `d` and its 8 bytes in hex.
+/// On OutOfMemory a part of the text may have been appended.
 #[cycle(show)]
 pub fn show_tree(value: &TVal, into: &mut Bytes) -> Result<(), OutOfMemory>
     ensures ok { OnOk result (into.new ≡ into.old ++ text.shown (view value.now)) }
@@ -35,7 +36,9 @@ pub fn show_tree(value: &TVal, into: &mut Bytes) -> Result<(), OutOfMemory>
 
 #[cycle(show)]
 fn show_list(list: &TList, opening: u8, closing: u8, into: &mut Bytes) -> Result<(), OutOfMemory>
-    ensures ok { OnOk result (into.new ≡ into.old ++ opening ∷ (text.joined (text.item_texts (list_view list.now)) ++ closing ∷ [])) }
+    ensures ok { OnOk result
+        (into.new ≡ into.old
+        ++ opening ∷ (text.joined (text.item_texts (list_view list.now)) ++ closing ∷ [])) }
     ensures kept { OnErr result (StartsWith into.new into.old) }
 {
     into.push(opening)?;
@@ -49,7 +52,8 @@ fn show_list(list: &TList, opening: u8, closing: u8, into: &mut Bytes) -> Result
 
 #[cycle(show)]
 fn show_item(item: &TVal, first: bool, into: &mut Bytes) -> Result<(), OutOfMemory>
-    ensures ok { OnOk result (into.new ≡ into.old ++ (text.comma first ++ text.shown (view item.now))) }
+    ensures ok { OnOk result
+        (into.new ≡ into.old ++ (text.comma first ++ text.shown (view item.now))) }
     ensures kept { OnErr result (StartsWith into.new into.old) }
 {
     push_comma(into, first)?;
@@ -58,7 +62,8 @@ fn show_item(item: &TVal, first: bool, into: &mut Bytes) -> Result<(), OutOfMemo
 
 #[cycle(show)]
 fn show_map(map: &TMap, into: &mut Bytes) -> Result<(), OutOfMemory>
-    ensures ok { OnOk result (into.new ≡ into.old ++ 40 ∷ (text.joined (text.pair_texts (map_view map.now)) ++ 41 ∷ [])) }
+    ensures ok { OnOk result
+        (into.new ≡ into.old ++ 40 ∷ (text.joined (text.pair_texts (map_view map.now)) ++ 41 ∷ [])) }
     ensures kept { OnErr result (StartsWith into.new into.old) }
 {
     into.push(b'(')?;
@@ -72,7 +77,10 @@ fn show_map(map: &TMap, into: &mut Bytes) -> Result<(), OutOfMemory>
 
 #[cycle(show)]
 fn show_pair(pair: &(TVal, TVal), first: bool, into: &mut Bytes) -> Result<(), OutOfMemory>
-    ensures ok { OnOk result (into.new ≡ into.old ++ (text.comma first ++ text.pair_text (text.shown (view pair.now.0)) (text.shown (view pair.now.1)))) }
+    ensures ok { OnOk result
+        (into.new ≡ into.old
+        ++ (text.comma first
+        ++ text.pair_text (text.shown (view pair.now.0)) (text.shown (view pair.now.1)))) }
     ensures kept { OnErr result (StartsWith into.new into.old) }
 {
     push_comma(into, first)?;
@@ -83,7 +91,9 @@ fn show_pair(pair: &(TVal, TVal), first: bool, into: &mut Bytes) -> Result<(), O
 
 #[cycle(show)]
 fn show_struct(fields: &TFields, into: &mut Bytes) -> Result<(), OutOfMemory>
-    ensures ok { OnOk result (into.new ≡ into.old ++ 123 ∷ (text.joined (text.field_texts (struct_view fields.now)) ++ 125 ∷ [])) }
+    ensures ok { OnOk result
+        (into.new ≡ into.old
+        ++ 123 ∷ (text.joined (text.field_texts (struct_view fields.now)) ++ 125 ∷ [])) }
     ensures kept { OnErr result (StartsWith into.new into.old) }
 {
     into.push(b'{')?;
@@ -97,7 +107,8 @@ fn show_struct(fields: &TFields, into: &mut Bytes) -> Result<(), OutOfMemory>
 
 #[cycle(show)]
 fn show_field(id: i16, value: &TVal, first: bool, into: &mut Bytes) -> Result<(), OutOfMemory>
-    ensures ok { OnOk result (into.new ≡ into.old ++ (text.comma first ++ text.field_text id (text.shown (view value.now)))) }
+    ensures ok { OnOk result
+        (into.new ≡ into.old ++ (text.comma first ++ text.field_text id (text.shown (view value.now)))) }
     ensures kept { OnErr result (StartsWith into.new into.old) }
 {
     push_comma(into, first)?;
@@ -106,7 +117,7 @@ fn show_field(id: i16, value: &TVal, first: bool, into: &mut Bytes) -> Result<()
     show_tree(value, into)
 }
 
-/// A comma and a blank, but in front of the first of several.
+/// Appends a comma and a space, except before the first item.
 fn push_comma(into: &mut Bytes, first: bool) -> Result<(), OutOfMemory>
     ensures ok { OnOk result (into.new ≡ into.old ++ text.comma first) }
     ensures kept { OnErr result (into.new ≡ into.old) }
@@ -133,7 +144,7 @@ fn push_number(into: &mut Bytes, number: i64) -> Result<(), OutOfMemory>
     into.extend(buffer.format(number).as_bytes())
 }
 
-/// A letter, and bytes in lower-case hex.
+/// Appends `letter`, and `bytes` in lower-case hex.
 #[tactic(auto, using(std::proofs::Transfers::starts_with_trans), unfolding(hex::specs::Hex::encode_with))]
 fn push_hex(into: &mut Bytes, letter: u8, bytes: &[u8]) -> Result<(), OutOfMemory>
     ensures ok { OnOk result (into.new ≡ into.old ++ letter ∷ encode_lower bytes.now) }
@@ -151,7 +162,7 @@ fn push_hex_byte(into: &mut Bytes, byte: u8) -> Result<(), OutOfMemory>
     ensures kept { OnErr result (into.new ≡ into.old) }
 {
     let mut digits = [0u8; 2];
-    // Two digits are the room that one byte takes, so this never fails.
+    // One byte has exactly two hex digits, so this call cannot fail.
     let _ = hex::encode_to_slice(&[byte], &mut digits);
     into.extend(&digits)
 }

@@ -1,6 +1,6 @@
-// Passing a value of a kind without building it.
+// Skipping a value of a given kind without building it.
 ghost use Rattle.std.specs.Prelude.{◌≡◌, ◌<◌, ◌≤◌, length, OnOk};
-ghost use Rattle.thrift_compact.specs.Answers.{Gives, passed};
+ghost use Rattle.thrift_compact.specs.Answers.{Gives, skipped};
 ghost use Rattle.thrift_compact.specs.Reading.{element, nest, value as value_at};
 
 use crate::cursor::{Cursor, Stop};
@@ -9,15 +9,17 @@ use crate::ids::Ids;
 use crate::kind::TKind;
 use std::alloc::Global;
 
-/// Passes a value of a kind; `room` more structs, lists, sets and maps may be opened in one another.
+/// Skips the value of a field. `depth_left` is the number of levels of structs, lists, sets and maps that may still be
+/// opened.
 #[cycle(skip)]
 pub(crate) fn skip_value(
     alloc: Global,
     cursor: &mut Cursor<'_>,
-    room: u32,
+    depth_left: u32,
     kind: TKind,
 ) -> Result<(), Stop>
-    ensures value { Gives (λ u. u) result cursor.new (passed (value_at room kind cursor.old)) }
+    ensures value { Gives (λ u. u) result cursor.new
+        (skipped (value_at depth_left kind cursor.old)) }
     ensures shorter { OnOk result (length cursor.new ≤ length cursor.old) }
 {
     match kind {
@@ -41,23 +43,24 @@ pub(crate) fn skip_value(
         TKind::Binary => {
             cursor.binary()?;
         }
-        TKind::List => skip_list(alloc, cursor, room)?,
-        TKind::Set => skip_list(alloc, cursor, room)?,
-        TKind::Map => skip_map(alloc, cursor, room)?,
-        TKind::Struct => skip_fields(alloc, cursor, room)?,
+        TKind::List => skip_list(alloc, cursor, depth_left)?,
+        TKind::Set => skip_list(alloc, cursor, depth_left)?,
+        TKind::Map => skip_map(alloc, cursor, depth_left)?,
+        TKind::Struct => skip_fields(alloc, cursor, depth_left)?,
     }
     Ok(())
 }
 
-/// Passes an element, a key or a value of a map: there a boolean has a byte of its own.
+/// Skips an element of a list or set, or a key or value of a map. A boolean takes one byte there.
 #[cycle(skip)]
 pub(crate) fn skip_element(
     alloc: Global,
     cursor: &mut Cursor<'_>,
-    room: u32,
+    depth_left: u32,
     kind: TKind,
 ) -> Result<(), Stop>
-    ensures value { Gives (λ u. u) result cursor.new (passed (element (value_at room) kind cursor.old)) }
+    ensures value { Gives (λ u. u) result cursor.new
+        (skipped (element (value_at depth_left) kind cursor.old)) }
     ensures shorter { OnOk result (length cursor.new ≤ length cursor.old) }
 {
     match kind {
@@ -69,17 +72,18 @@ pub(crate) fn skip_element(
             cursor.truth()?;
             Ok(())
         }
-        _ => skip_value(alloc, cursor, room, kind),
+        _ => skip_value(alloc, cursor, depth_left, kind),
     }
 }
 
-/// Passes a list or a set.
+/// Skips a list or a set.
 #[cycle(skip)]
-fn skip_list(alloc: Global, cursor: &mut Cursor<'_>, room: u32) -> Result<(), Stop>
-    ensures value { Gives (λ u. u) result cursor.new (passed ((nest room).trees cursor.old)) }
+fn skip_list(alloc: Global, cursor: &mut Cursor<'_>, depth_left: u32) -> Result<(), Stop>
+    ensures value { Gives (λ u. u) result cursor.new
+        (skipped ((nest depth_left).trees cursor.old)) }
     ensures shorter { OnOk result (length cursor.new ≤ length cursor.old) }
 {
-    let inner = cursor.enter(room)?;
+    let inner = cursor.enter(depth_left)?;
     let (kind, count) = list_head(cursor)?;
     for _turn in 0..count {
         skip_element(alloc, cursor, inner, kind)?;
@@ -88,11 +92,12 @@ fn skip_list(alloc: Global, cursor: &mut Cursor<'_>, room: u32) -> Result<(), St
 }
 
 #[cycle(skip)]
-fn skip_map(alloc: Global, cursor: &mut Cursor<'_>, room: u32) -> Result<(), Stop>
-    ensures value { Gives (λ u. u) result cursor.new (passed ((nest room).pairs cursor.old)) }
+fn skip_map(alloc: Global, cursor: &mut Cursor<'_>, depth_left: u32) -> Result<(), Stop>
+    ensures value { Gives (λ u. u) result cursor.new
+        (skipped ((nest depth_left).pairs cursor.old)) }
     ensures shorter { OnOk result (length cursor.new ≤ length cursor.old) }
 {
-    let inner = cursor.enter(room)?;
+    let inner = cursor.enter(depth_left)?;
     let count = cursor.size()?;
     if count == 0 {
         return Ok(());
@@ -105,13 +110,14 @@ fn skip_map(alloc: Global, cursor: &mut Cursor<'_>, room: u32) -> Result<(), Sto
     Ok(())
 }
 
-/// Passes the fields of a struct, up to its stop byte.
+/// Skips the fields of a struct and its stop byte.
 #[cycle(skip)]
-fn skip_fields(alloc: Global, cursor: &mut Cursor<'_>, room: u32) -> Result<(), Stop>
-    ensures value { Gives (λ u. u) result cursor.new (passed ((nest room).fields cursor.old)) }
+fn skip_fields(alloc: Global, cursor: &mut Cursor<'_>, depth_left: u32) -> Result<(), Stop>
+    ensures value { Gives (λ u. u) result cursor.new
+        (skipped ((nest depth_left).fields cursor.old)) }
     ensures shorter { OnOk result (length cursor.new ≤ length cursor.old) }
 {
-    let inner = cursor.enter(room)?;
+    let inner = cursor.enter(depth_left)?;
     let mut ids = Ids::new(alloc);
     while let Some((_id, kind)) = field_head(cursor, &mut ids)? {
         skip_value(alloc, cursor, inner, kind)?;

@@ -1,3 +1,4 @@
+// Trees of the compact protocol's values.
 ghost use Rattle.std.specs.Prelude.{◌≡◌, [], ◌∷◌, ◌++◌, ◌==◌, length, slice_get, OnOk, OnErr, IfOk};
 ghost use Rattle.std.specs.Option.{option_copied};
 
@@ -5,7 +6,7 @@ use pme_base::{Bytes, OutOfMemory};
 use sqlite_items::Items;
 use std::alloc::Global;
 
-/// A value of the compact protocol. A tree that stands alone is a `Struct`.
+/// A value of the compact protocol with all values inside it. The outermost value of a tree is a `Struct`.
 #[derive(Drop)]
 #[cycle(tree)]
 pub enum TVal {
@@ -14,7 +15,7 @@ pub enum TVal {
     I16(i16),
     I32(i32),
     I64(i64),
-    /// The 8 bytes of a double, in the order of the file.
+    /// The 8 bytes of a double, in stored order.
     Double([u8; 8]),
     Binary(Bytes),
     List(TList),
@@ -23,21 +24,21 @@ pub enum TVal {
     Struct(TFields),
 }
 
-/// The items of a list or a set, in the order of the bytes.
+/// The items of a list or a set, in stored order.
 #[derive(Drop)]
 #[cycle(tree)]
 pub struct TList {
     pub(crate) items: Items<TVal>,
 }
 
-/// The pairs of a map, key before value, in the order of the bytes.
+/// The pairs of a map, key before value, in stored order.
 #[derive(Drop)]
 #[cycle(tree)]
 pub struct TMap {
     pub(crate) pairs: Items<(TVal, TVal)>,
 }
 
-/// The fields of a struct, each an id and its value, in the order of the bytes.
+/// The fields of a struct, each an id and its value, in stored order.
 #[derive(Drop)]
 #[cycle(tree)]
 pub struct TFields {
@@ -45,7 +46,7 @@ pub struct TFields {
 }
 
 impl TList {
-    /// No items; it takes no memory yet.
+    /// Returns an empty list. It allocates nothing.
     pub fn new(alloc: Global) -> TList
         ensures { result.items ≡ [] }
     {
@@ -54,8 +55,8 @@ impl TList {
         }
     }
 
-    // No items, with room for `count` of them.
-    pub(crate) fn with_room(alloc: Global, count: usize) -> Result<TList, OutOfMemory>
+    // Returns an empty list with capacity for `count` items.
+    pub(crate) fn with_capacity(alloc: Global, count: usize) -> Result<TList, OutOfMemory>
         ensures { IfOk result (λ made. made.items ≡ []) }
     {
         Ok(TList {
@@ -63,7 +64,7 @@ impl TList {
         })
     }
 
-    /// Adds an item at the end.
+    /// Appends an item. On OutOfMemory the list is unchanged.
     pub fn push(&mut self, item: TVal) -> Result<(), OutOfMemory>
         ensures ok { OnOk result (self.new.items ≡ self.old.items ++ item ∷ []) }
         ensures unchanged { OnErr result (self.new.items ≡ self.old.items) }
@@ -72,21 +73,21 @@ impl TList {
         Ok(())
     }
 
-    /// How many items there are.
+    /// The number of items.
     pub fn len(&self) -> usize
         ensures { result ≡ length self.now.items }
     {
         self.items.len()
     }
 
-    /// Whether there is no item.
+    /// Whether the list is empty.
     pub fn is_empty(&self) -> bool
         ensures { result ≡ (length self.now.items == 0) }
     {
         self.items.len() == 0
     }
 
-    /// The item at `i`; None exactly from `len` on.
+    /// The item at index `i`; None where `i` is `len` or more.
     pub fn get(&self, i: usize) -> Option<&TVal>
         ensures { option_copied result ≡ slice_get self.now.items i }
     {
@@ -95,7 +96,7 @@ impl TList {
 }
 
 impl TMap {
-    /// No pairs; it takes no memory yet.
+    /// Returns an empty map. It allocates nothing.
     pub fn new(alloc: Global) -> TMap
         ensures { result.pairs ≡ [] }
     {
@@ -104,8 +105,8 @@ impl TMap {
         }
     }
 
-    // No pairs, with room for `count` of them.
-    pub(crate) fn with_room(alloc: Global, count: usize) -> Result<TMap, OutOfMemory>
+    // Returns an empty map with capacity for `count` pairs.
+    pub(crate) fn with_capacity(alloc: Global, count: usize) -> Result<TMap, OutOfMemory>
         ensures { IfOk result (λ made. made.pairs ≡ []) }
     {
         Ok(TMap {
@@ -113,7 +114,7 @@ impl TMap {
         })
     }
 
-    /// Adds a pair of a key and a value at the end.
+    /// Appends a pair of a key and a value. On OutOfMemory the map is unchanged.
     pub fn push(&mut self, pair: (TVal, TVal)) -> Result<(), OutOfMemory>
         ensures ok { OnOk result (self.new.pairs ≡ self.old.pairs ++ pair ∷ []) }
         ensures unchanged { OnErr result (self.new.pairs ≡ self.old.pairs) }
@@ -122,21 +123,21 @@ impl TMap {
         Ok(())
     }
 
-    /// How many pairs there are.
+    /// The number of pairs.
     pub fn len(&self) -> usize
         ensures { result ≡ length self.now.pairs }
     {
         self.pairs.len()
     }
 
-    /// Whether there is no pair.
+    /// Whether the map is empty.
     pub fn is_empty(&self) -> bool
         ensures { result ≡ (length self.now.pairs == 0) }
     {
         self.pairs.len() == 0
     }
 
-    /// The pair at `i`; None exactly from `len` on.
+    /// The pair at index `i`; None where `i` is `len` or more.
     pub fn get(&self, i: usize) -> Option<&(TVal, TVal)>
         ensures { option_copied result ≡ slice_get self.now.pairs i }
     {
@@ -145,7 +146,7 @@ impl TMap {
 }
 
 impl TFields {
-    /// No fields; it takes no memory yet.
+    /// Returns a struct without fields. It allocates nothing.
     pub fn new(alloc: Global) -> TFields
         ensures { result.fields ≡ [] }
     {
@@ -154,8 +155,8 @@ impl TFields {
         }
     }
 
-    // No fields, with room for `count` of them.
-    pub(crate) fn with_room(alloc: Global, count: usize) -> Result<TFields, OutOfMemory>
+    // Returns a struct without fields, with capacity for `count` fields.
+    pub(crate) fn with_capacity(alloc: Global, count: usize) -> Result<TFields, OutOfMemory>
         ensures { IfOk result (λ made. made.fields ≡ []) }
     {
         Ok(TFields {
@@ -163,7 +164,7 @@ impl TFields {
         })
     }
 
-    /// Adds a field, its id and its value, at the end.
+    /// Appends a field: its id and its value. On OutOfMemory the struct is unchanged.
     pub fn push(&mut self, field: (i16, TVal)) -> Result<(), OutOfMemory>
         ensures ok { OnOk result (self.new.fields ≡ self.old.fields ++ field ∷ []) }
         ensures unchanged { OnErr result (self.new.fields ≡ self.old.fields) }
@@ -172,21 +173,21 @@ impl TFields {
         Ok(())
     }
 
-    /// How many fields there are.
+    /// The number of fields.
     pub fn len(&self) -> usize
         ensures { result ≡ length self.now.fields }
     {
         self.fields.len()
     }
 
-    /// Whether there is no field.
+    /// Whether the struct has no fields.
     pub fn is_empty(&self) -> bool
         ensures { result ≡ (length self.now.fields == 0) }
     {
         self.fields.len() == 0
     }
 
-    /// The field at `i`; None exactly from `len` on.
+    /// The field at index `i`; None where `i` is `len` or more.
     pub fn get(&self, i: usize) -> Option<&(i16, TVal)>
         ensures { option_copied result ≡ slice_get self.now.fields i }
     {

@@ -1,10 +1,11 @@
+// A typed writer of one struct.
 ghost use Rattle.std.specs.Prelude.{◌≡◌, ◌++◌, ◌∷◌, [], List, ℕ, length, take, OnOk, OnErr};
 ghost use Rattle.thrift_compact.specs.Calls as call;
 ghost use Rattle.thrift_compact.specs.Spelling.{spelling, field_head_of, list_head_of, Extends};
-ghost use Rattle.thrift_compact.specs.Tree.{kind_of_tree, truth as truth_tree, binary as binary_tree};
-ghost use Rattle.thrift_compact.specs.Writing.{new_draft, after, May, IsWhole, whole_tree, id_before, item_kind, named_kind, one_less, with_field, resumed};
+ghost use Rattle.thrift_compact.specs.Tree.{kind_of_tree, truth as truth_tree, binary as binary_tree, whole_tree};
+ghost use Rattle.thrift_compact.specs.Writing.{new_draft, after, May, IsWhole, id_before, item_kind, named_kind, one_less, with_field, resumed};
 
-use crate::canonical::{cut, put_binary};
+use crate::canonical::put_binary;
 use crate::kind::TKind;
 use crate::put::{put_field_head, put_int8, put_list_head, put_number};
 use pme_base::{Bytes, OutOfMemory};
@@ -12,14 +13,14 @@ use std::alloc::Global;
 use std::collections::VecDeque;
 use std::marker::Model;
 
-/// A part of the tree that is being written.
+/// A part of the tree that the writer has open, or its state before or after the tree.
 #[derive(Clone, Copy, Drop)]
 enum Part {
     /// Before the outermost struct.
     Start,
-    /// A struct, and the id of its last field.
+    /// A struct, with the id of its last field if it has one yet.
     Struct(Option<i16>),
-    /// A list: the kind of its items, and how many are to come.
+    /// A list, with the kind of its items and the number of items still to be written.
     List(TKind, u32),
     /// After the outermost struct.
     End,
@@ -54,9 +55,10 @@ impl Part {
     }
 }
 
-/// Takes off the parts that are over, and the innermost that isn't, which is the answer.
+/// Removes the innermost parts up to the first that isn't a completed list, and returns that one; End if there is none.
 fn next_open(outer: &mut VecDeque<Part>) -> Part
-    ensures { (out : List ℕ) → resumed out outer.old.items ≡ record { out = out; inner = result; outer = outer.new.items } }
+    ensures { (out : List ℕ) →
+        resumed out outer.old.items ≡ record { out = out; inner = result; outer = outer.new.items } }
 {
     while let Some(part) = outer.pop_front() {
         if let Part::List(_, 0) = part {
@@ -67,10 +69,9 @@ fn next_open(outer: &mut VecDeque<Part>) -> Part
     Part::End
 }
 
-/// Writes one struct, and all that is in it, in the canonical spelling. The calls follow the tree: a struct's fields
-/// come by ascending id, a list's items right after `list_field`, and a list is over when as many have been written
-/// as it named. At most 32 structs and lists may be open, one in the other. A call that is refused for want of memory
-/// has done nothing.
+/// Writes one struct, with all values inside it, in the canonical spelling. The calls follow the tree: the fields of a
+/// struct come by ascending id, and the items of a list right after its `list_field`, which names their number. At most
+/// 32 structs and lists may be nested. A call that returns OutOfMemory leaves the writer unchanged.
 #[derive(Drop)]
 pub struct Writer {
     out: Bytes,
@@ -87,7 +88,7 @@ impl Model for Writer {
 }
 
 impl Writer {
-    /// Nothing is written yet; it takes no memory.
+    /// Returns a writer that has written nothing. It allocates nothing.
     pub fn new(alloc: Global) -> Writer
         ensures { result ≡ new_draft }
     {
@@ -112,7 +113,7 @@ impl Writer {
         Ok(())
     }
 
-    /// A field that is a whole number; `kind` is from I8 to I64.
+    /// Writes an integer field. `kind` is from I8 to I64, and `value` is in its range.
     pub fn whole(&mut self, id: i16, kind: TKind, value: i64) -> Result<(), OutOfMemory>
         requires { May (call.whole id kind value) self.old }
         ensures ok { OnOk result (self.new ≡ after (call.whole id kind value) self.old) }
@@ -120,12 +121,12 @@ impl Writer {
     {
         let start = self.out.len();
         let put = put_whole_field(&mut self.out, self.inner.id_before(), id, kind, value);
-        cut_unless(&mut self.out, start, put)?;
+        truncate_on_error(&mut self.out, start, put)?;
         self.inner = Part::Struct(Some(id));
         Ok(())
     }
 
-    /// A field that is a boolean.
+    /// Writes a boolean field.
     pub fn truth(&mut self, id: i16, value: bool) -> Result<(), OutOfMemory>
         requires { May (call.truth id value) self.old }
         ensures ok { OnOk result (self.new ≡ after (call.truth id value) self.old) }
@@ -135,7 +136,7 @@ impl Writer {
         self.head(id, kind)
     }
 
-    /// A field that is a binary.
+    /// Writes a binary field.
     pub fn binary(&mut self, id: i16, bytes: &[u8]) -> Result<(), OutOfMemory>
         requires { May (call.binary id bytes.now) self.old }
         ensures ok { OnOk result (self.new ≡ after (call.binary id bytes.now) self.old) }
@@ -143,12 +144,12 @@ impl Writer {
     {
         let start = self.out.len();
         let put = put_binary_field(&mut self.out, self.inner.id_before(), id, bytes);
-        cut_unless(&mut self.out, start, put)?;
+        truncate_on_error(&mut self.out, start, put)?;
         self.inner = Part::Struct(Some(id));
         Ok(())
     }
 
-    /// Begins a struct that is a field.
+    /// Begins a struct field. Its fields follow, and `struct_end`.
     pub fn struct_field(&mut self, id: i16) -> Result<(), OutOfMemory>
         requires { May (call.struct_field id) self.old }
         ensures ok { OnOk result (self.new ≡ after (call.struct_field id) self.old) }
@@ -157,13 +158,14 @@ impl Writer {
         self.outer.reserve(1)?;
         let start = self.out.len();
         let put = put_field_head(&mut self.out, self.inner.id_before(), id, TKind::Struct);
-        cut_unless(&mut self.out, start, put)?;
+        truncate_on_error(&mut self.out, start, put)?;
         self.outer.push_front_reserved(Part::Struct(Some(id)));
         self.inner = Part::Struct(None);
         Ok(())
     }
 
-    /// Begins a list that is a field, of `count` items of a kind. Their calls follow. Booleans name the kind True.
+    /// Begins a list field of `count` items of a kind. The calls for its items follow. The head of a list of booleans has
+    /// the kind True.
     pub fn list_field(&mut self, id: i16, kind: TKind, count: u32) -> Result<(), OutOfMemory>
         requires { May (call.list_field id kind count) self.old }
         ensures ok { OnOk result (self.new ≡ after (call.list_field id kind count) self.old) }
@@ -172,7 +174,7 @@ impl Writer {
         self.outer.reserve(1)?;
         let start = self.out.len();
         let put = put_list_field(&mut self.out, self.inner.id_before(), id, kind, count);
-        cut_unless(&mut self.out, start, put)?;
+        truncate_on_error(&mut self.out, start, put)?;
         self.inner = Part::Struct(Some(id));
         if count > 0 {
             self.outer.push_front_reserved(Part::Struct(Some(id)));
@@ -181,7 +183,7 @@ impl Writer {
         Ok(())
     }
 
-    /// The next item of a list of whole numbers, in the kind that the list named.
+    /// Writes the next item of a list of integers. `value` is in the range of the list's kind.
     pub fn item_whole(&mut self, value: i64) -> Result<(), OutOfMemory>
         requires { May (call.item_whole value) self.old }
         ensures ok { OnOk result (self.new ≡ after (call.item_whole value) self.old) }
@@ -189,12 +191,12 @@ impl Writer {
     {
         let start = self.out.len();
         let put = put_whole(&mut self.out, self.inner.item_kind(), value);
-        cut_unless(&mut self.out, start, put)?;
+        truncate_on_error(&mut self.out, start, put)?;
         self.item_done();
         Ok(())
     }
 
-    /// The next item of a list of binaries.
+    /// Writes the next item of a list of binaries.
     pub fn item_binary(&mut self, bytes: &[u8]) -> Result<(), OutOfMemory>
         requires { May (call.item_binary bytes.now) self.old }
         ensures ok { OnOk result (self.new ≡ after (call.item_binary bytes.now) self.old) }
@@ -202,7 +204,7 @@ impl Writer {
     {
         let start = self.out.len();
         let put = put_binary(&mut self.out, bytes);
-        cut_unless(&mut self.out, start, put)?;
+        truncate_on_error(&mut self.out, start, put)?;
         self.item_done();
         Ok(())
     }
@@ -218,7 +220,7 @@ impl Writer {
         Ok(())
     }
 
-    /// The bytes, once the outermost struct has ended.
+    /// Returns the bytes written. The outermost struct has ended.
     pub fn finish(self) -> Bytes
         requires { self.inner ≡ Part.End }
         ensures { result ≡ self.out }
@@ -226,19 +228,19 @@ impl Writer {
         self.out
     }
 
-    /// A field that is its head alone.
+    /// Writes a field that has no bytes after its head.
     fn head(&mut self, id: i16, kind: TKind) -> Result<(), OutOfMemory>
         ensures ok { OnOk result (self.new ≡ with_field id kind [] self.old) }
         ensures unchanged { OnErr result (self.new ≡ self.old) }
     {
         let start = self.out.len();
         let put = put_field_head(&mut self.out, self.inner.id_before(), id, kind);
-        cut_unless(&mut self.out, start, put)?;
+        truncate_on_error(&mut self.out, start, put)?;
         self.inner = Part::Struct(Some(id));
         Ok(())
     }
 
-    /// An item of the innermost list is written.
+    /// Counts one item of the innermost list as written, and closes the list after its last item.
     fn item_done(&mut self)
         ensures { self.new ≡ resumed self.old.out (one_less self.old.inner ∷ self.old.outer) }
     {
@@ -249,8 +251,8 @@ impl Writer {
     }
 }
 
-/// Cuts `into` back to `length` bytes where what was put behind them is refused.
-fn cut_unless(
+/// Truncates `into` to `length` bytes if appending to it failed, and returns `put`, the result of the appending call.
+fn truncate_on_error(
     into: &mut Bytes,
     length: usize,
     put: Result<(), OutOfMemory>,
@@ -260,11 +262,12 @@ fn cut_unless(
     ensures cut { OnErr put (into.new ≡ take length into.old) }
 {
     if put.is_err() {
-        cut(into, length);
+        into.truncate(length);
     }
     put
 }
 
+/// Appends an integer of a kind from I8 to I64.
 fn put_whole(into: &mut Bytes, kind: TKind, value: i64) -> Result<(), OutOfMemory>
     requires { IsWhole kind value }
     ensures ok { OnOk result (into.new ≡ into.old ++ spelling (whole_tree kind value)) }
@@ -284,7 +287,8 @@ fn put_whole_field(
     value: i64,
 ) -> Result<(), OutOfMemory>
     requires { IsWhole kind value }
-    ensures ok { OnOk result (into.new ≡ into.old ++ (field_head_of before id kind ++ spelling (whole_tree kind value))) }
+    ensures ok { OnOk result
+        (into.new ≡ into.old ++ (field_head_of before id kind ++ spelling (whole_tree kind value))) }
     ensures kept { OnErr result (Extends into.old into.new) }
 {
     put_field_head(into, before, id, kind)?;
@@ -292,14 +296,16 @@ fn put_whole_field(
 }
 
 fn put_binary_field(into: &mut Bytes, before: i16, id: i16, bytes: &[u8]) -> Result<(), OutOfMemory>
-    ensures ok { OnOk result (into.new ≡ into.old ++ (field_head_of before id TKind.Binary ++ spelling (binary_tree bytes.now))) }
+    ensures ok { OnOk result
+        (into.new ≡ into.old
+        ++ (field_head_of before id TKind.Binary ++ spelling (binary_tree bytes.now))) }
     ensures kept { OnErr result (Extends into.old into.new) }
 {
     put_field_head(into, before, id, TKind::Binary)?;
     put_binary(into, bytes)
 }
 
-/// The heads of a field that is a list, and of that list.
+/// Appends the head of a list field and the head of its list.
 fn put_list_field(
     into: &mut Bytes,
     before: i16,
@@ -307,13 +313,16 @@ fn put_list_field(
     kind: TKind,
     count: u32,
 ) -> Result<(), OutOfMemory>
-    ensures ok { OnOk result (into.new ≡ into.old ++ (field_head_of before id TKind.List ++ list_head_of (named_kind kind count) count)) }
+    ensures ok { OnOk result
+        (into.new ≡ into.old
+        ++ (field_head_of before id TKind.List ++ list_head_of (named_kind kind count) count)) }
     ensures kept { OnErr result (Extends into.old into.new) }
 {
     put_field_head(into, before, id, TKind::List)?;
     put_list_head(into, named_kind(kind, count), u64::from(count))
 }
 
+/// The element kind in the head of a list: Struct for an empty list, and True for booleans.
 fn named_kind(kind: TKind, count: u32) -> TKind
     ensures { result ≡ named_kind kind count }
 {

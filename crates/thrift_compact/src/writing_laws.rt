@@ -1,7 +1,8 @@
+// Laws on the typed writer.
 ghost use Rattle.thrift_compact.specs.Described.{WritesCanonically, WritesWhatIsDescribed};
 
-/// The law that the writer gives the canonical spelling of the tree that its calls describe: of a struct's booleans,
-/// whole numbers, binaries, structs, and lists of whole numbers, binaries and structs, with ascending ids.
+/// Law: the writer's calls write the canonical spelling of the struct that they describe. They can describe each struct
+/// with ascending ids whose fields are booleans, integers, binaries, structs, or lists of integers, binaries or structs.
 pub fn writes_the_canonical_spelling()
     ensures canonical { WritesCanonically }
     ensures spelled { WritesWhatIsDescribed }

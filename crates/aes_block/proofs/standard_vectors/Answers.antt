@@ -1,4 +1,4 @@
--- The checker computes the cipher.
+-- The checker computes the cipher on the example vectors.
 use Rattle.std.proofs.Common.{refl}
 use Rattle.aes_block.specs.Aes.{aes, cipher, state_after, schedule, schedule_after, power_of_x}
 use Rattle.aes_block.specs.Field.{field_mul, folded, sbox, inverse, inverse_below, affine_bit}

@@ -47,13 +47,13 @@ returns c b lt =
     let state = c.loop-r.invariant b lt in
     let long : length s ≡ 16 = sym (length-map s basis) ∙ ap length (sym state.0) ∙ length-lane_block c.loop-r.state b (omega arith) lt in
     let wide : length (round_key w (n + 1)) ≡ 16 = length-chunk (16 * (n + 1)) 16 w (omega arith) in
-    let substituted = ap (λ l. lane_block l b) c.substituted.ensures ∙ lane_block-map affine c.loop-r.state b ∙ ap (map affine) state.0 in
-    let shifted = c.reordered.ensures b lt ∙ ap (λ l. map (λ k. get_or l k 0) ROWS) substituted in
+    let substituted = ap (λ l. lane_block l b) c.sub_bytes_over_basis.ensures ∙ lane_block-map affine c.loop-r.state b ∙ ap (map affine) state.0 in
+    let shifted = c.permute_bytes.ensures b lt ∙ ap (λ l. map (λ k. get_or l k 0) ROWS) substituted in
     let vector : length c.key_of_round-2.result ≡ 64 = omega arith in
     let key = ap (λ l. lane_block l b) (zip2_splat bit_xor c.key_of_round-2.result 64 0x63 vector)
     ∙ lane_block-map (λ x. bit_xor x 0x63) c.key_of_round-2.result b
     ∙ ap (map (λ x. bit_xor x 0x63)) (c.key_of_round-2.ensures b lt) in
-    lane_block-zip2 bit_xor c.reordered.result _ b
+    lane_block-zip2 bit_xor c.permute_bytes.result _ b
     ∙ (λ i. zip2 bit_xor (shifted i) (key i))
     ∙ last_is s (round_key w (n + 1)) long wide state.1
     ∙ (λ i. final_round (state_after w (lane_block c.args.blocks b) (ended i)) (round_key w (add-one n i)))

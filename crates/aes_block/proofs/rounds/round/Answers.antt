@@ -14,16 +14,16 @@ pub returns : goal.returns
 returns c b s k lt hs hk =
     let v = lane_block c.args.state b in
     let key = lane_block c.args.key b in
-    let both = c.substituted_and_doubled.ensures in
+    let both = c.sub_bytes_and_double.ensures in
     let once = ap (λ l. lane_block l b) both.once ∙ lane_block-map affine_once c.args.state b in
     let twice = ap (λ l. lane_block l b) both.twice ∙ lane_block-map affine_twice c.args.state b in
     let sums = lane_block-zip2 bit_xor _ _ b ∙ (λ i. zip2 bit_xor (once i) (twice i)) in
-    let first = c.reordered.ensures b lt ∙ ap (λ l. map (λ k. get_or l k 0) ROWS) twice in
-    let second = c.reordered-2.ensures b lt ∙ ap (λ l. map (λ k. get_or l k 0) ROWS_TURNED) sums in
-    let third = c.reordered-3.ensures b lt ∙ ap (λ l. map (λ k. get_or l k 0) ROWS_TURNED_TWICE) once in
-    let fourth = c.reordered-4.ensures b lt ∙ ap (λ l. map (λ k. get_or l k 0) ROWS_TURNED_THRICE) once in
+    let first = c.permute_bytes.ensures b lt ∙ ap (λ l. map (λ k. get_or l k 0) ROWS) twice in
+    let second = c.permute_bytes-2.ensures b lt ∙ ap (λ l. map (λ k. get_or l k 0) ROWS_TURNED) sums in
+    let third = c.permute_bytes-3.ensures b lt ∙ ap (λ l. map (λ k. get_or l k 0) ROWS_TURNED_TWICE) once in
+    let fourth = c.permute_bytes-4.ensures b lt ∙ ap (λ l. map (λ k. get_or l k 0) ROWS_TURNED_THRICE) once in
     let is = lane_block-zip2 bit_xor _ c.args.key b
-    ∙ ap (λ l. zip2 bit_xor l key) (lane_block-zip2 bit_xor _ _ b ∙ (λ i. zip2 bit_xor (lane_block-zip2 bit_xor c.reordered.result c.reordered-2.result b i) (lane_block-zip2 bit_xor c.reordered-3.result c.reordered-4.result b i)))
+    ∙ ap (λ l. zip2 bit_xor l key) (lane_block-zip2 bit_xor _ _ b ∙ (λ i. zip2 bit_xor (lane_block-zip2 bit_xor c.permute_bytes.result c.permute_bytes-2.result b i) (lane_block-zip2 bit_xor c.permute_bytes-3.result c.permute_bytes-4.result b i)))
     ∙ (λ i. zip2 bit_xor (zip2 bit_xor (zip2 bit_xor (first i) (second i)) (zip2 bit_xor (third i) (fourth i))) key)
     ∙ (λ i. round_over (hs.0 i) (hk.0 i)) in
     let ls : length s ≡ 16 = sym (length-map s basis) ∙ ap length (sym hs.0) ∙ length-lane_block c.args.state b (omega arith) lt in

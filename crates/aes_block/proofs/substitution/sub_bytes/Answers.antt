@@ -8,7 +8,7 @@ use Rattle.aes_block.proofs.substitution.sub_bytes.Goals as goal
 
 pub returns : goal.returns
 returns c =
-    let is = mapped affine basis c.args.v _ _ c.substituted.ensures c.over_basis.ensures in
+    let is = mapped affine basis c.args.v _ _ c.sub_bytes_over_basis.ensures c.over_basis.ensures in
     let long : length c.args.v ≡ 64 = omega arith in
     zip2_of_maps bit_xor (λ x. affine (basis x)) (λ _. 0x63) c.args.v is (splat_is_map c.args.v 64 0x63 long)
     ∙ maps_agree substituted sbox c.args.v is_sbox c.fits-v.1

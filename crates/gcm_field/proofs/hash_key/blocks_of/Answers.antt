@@ -9,9 +9,9 @@ use Rattle.gcm_field.proofs.hash_key.blocks_of.Goals as goal
 pub loop-v-preserved : goal.loop-v-preserved
 loop-v-preserved c =
     let f = λ (k : ℕ). to_be_bytes w128 (get_or c.args.row.now k 0) in
-    let more = fill_by_more f c.loop-v.spelled c.loop-v.v [] (omega arith) c.loop-v.invariant.written in
+    let more = fill_by_more f c.loop-v.blocks c.loop-v.v [] (omega arith) c.loop-v.invariant.written in
     record {
-      whole = length-set c.loop-v.spelled c.loop-v.v c.to_be_bytes.result ∙ c.loop-v.invariant.whole;
+      whole = length-set c.loop-v.blocks c.loop-v.v c.to_be_bytes.result ∙ c.loop-v.invariant.whole;
       written = rw c.to_be_bytes.ensures more;
     }
 
@@ -19,5 +19,5 @@ pub returns : goal.returns
 returns c =
     let products = c.args.row.now in
     let listed : products ≡ map (λ k. get_or products k 0) (range_with_len 0 16) = fill_by_all (λ k. get_or products k 0) products 16 0 (omega arith) (λ k h. refl) in
-    fill_by_all (λ k. to_be_bytes w128 (get_or products k 0)) c.loop-v.spelled 16 [] c.loop-v.invariant.whole (λ k h. c.loop-v.invariant.written k (omega arith))
+    fill_by_all (λ k. to_be_bytes w128 (get_or products k 0)) c.loop-v.blocks 16 [] c.loop-v.invariant.whole (λ k h. c.loop-v.invariant.written k (omega arith))
     ∙ sym (ap (map (to_be_bytes w128)) listed)

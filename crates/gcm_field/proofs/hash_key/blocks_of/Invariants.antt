@@ -5,6 +5,6 @@ use Rattle.gcm_field.proofs.hash_key.blocks_of.Given as goal
 abbrev pub invariant-loop-v : goal.invariant-loop-v
 invariant-loop-v l =
     record {
-      whole : length l.spelled ≡ 16;
-      written : (k : ℕ) → k < l.v → get_or l.spelled k [] ≡ to_be_bytes w128 (get_or l.row k 0);
+      whole : length l.blocks ≡ 16;
+      written : (k : ℕ) → k < l.v → get_or l.blocks k [] ≡ to_be_bytes w128 (get_or l.row k 0);
     }

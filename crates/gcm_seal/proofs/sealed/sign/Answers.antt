@@ -7,7 +7,7 @@ use Rattle.gcm_seal.specs.Hashing.{IsHashOf}
 use Rattle.gcm_seal.proofs.Texts.{gctr-append, length-gctr}
 use Rattle.gcm_seal.proofs.sealed.sign.Goals as goal
 
--- a text's next piece, of `width` bytes or what is left
+-- the next piece of a text: `width` bytes, or fewer at the end
 next_piece : (text : List ℕ) (at width : ℕ) → at ≤ length text → take at text ++ take (min (length text) (at + width) - at) (drop at text) ≡ take (at + width) text
 next_piece text at width h =
     let e : at + (min (length text) (at + width) - at) ≡ min (length text) (at + width) = omega arith in
@@ -32,7 +32,7 @@ update-requires c =
     let rest = length-drop (64 * i) plain in
     let piece = take (c.min.result - 64 * i) (drop (64 * i) plain) in
     let size = length-take (c.min.result - 64 * i) (drop (64 * i) plain) in
-    let taken = length-take (length piece) c.ciphered-ciphertext.result in
+    let taken = length-take (length piece) c.encrypt_short-ciphertext.result in
     omega arith
 
 pub loop-i-preserved : goal.loop-i-preserved
@@ -45,8 +45,8 @@ loop-i-preserved c =
     let piece = take (c.min.result - 64 * i) (drop (64 * i) plain) in
     let whole : length front ≡ 16 * (4 * i) = length-take-le (64 * i) plain (omega arith) ∙ (let e : 64 * i ≡ 16 * (4 * i) = omega arith in e) in
     let next : 64 * i + 64 ≡ 64 * (i + 1) = omega arith in
-    let joined : gctr key nonce 2 front ++ take (length piece) c.ciphered-ciphertext.result ≡ gctr key nonce 2 (take (64 * (i + 1)) plain) =
-    ap (λ t. gctr key nonce 2 front ++ t) c.ciphered-ciphertext.ensures
+    let joined : gctr key nonce 2 front ++ take (length piece) c.encrypt_short-ciphertext.result ≡ gctr key nonce 2 (take (64 * (i + 1)) plain) =
+    ap (λ t. gctr key nonce 2 front ++ t) c.encrypt_short-ciphertext.ensures
     ∙ sym (gctr-append key nonce 2 (4 * i) front piece whole)
     ∙ ap (gctr key nonce 2) (ap (λ m. front ++ take (m - 64 * i) (drop (64 * i) plain)) c.min.ensures ∙ next_piece plain (64 * i) 64 (omega arith) ∙ ap (λ n. take n plain) next) in
     subst (λ t. IsHashOf c.update.new.self key nonce c.args.aad.now t) joined (c.update.ensures.hash key nonce c.args.aad.now (gctr key nonce 2 front) c.loop-i.invariant)

@@ -11,8 +11,8 @@ loop-rest-preserved c =
     let size : vec_len values ≡ length values.items = omega (arith, values.ok) in
     let pushed : c.push_run.new.values.items ≡ values.items ++ take (c.args.count - length values.items) (run_values c.args.width c.in-Some.header c.in-Some.run'.now) =
     c.in_ok-push_run.ensures ∙ rw size in
-    run_turn c.args.count c.args.width c.in-Some.header so.turns _ values.items c.push_run.new.values.items c.loop-rest.rest.now c.in-Some.run'.now c.behind-rest.result.now
-    so.within so.enough so.same c.in-Some.ensures.header c.in-Some.ensures.shorter pushed (c.behind-rest.ensures ∙ ap (λ n. drop n c.in-Some.run'.now) c.run_size.ensures)
+    run_turn c.args.count c.args.width c.in-Some.header so.turns _ values.items c.push_run.new.values.items c.loop-rest.rest.now c.in-Some.run'.now c.bytes_after-rest.result.now
+    so.within so.enough so.same c.in-Some.ensures.header c.in-Some.ensures.shorter pushed (c.bytes_after-rest.ensures ∙ ap (λ n. drop n c.in-Some.run'.now) c.run_size.ensures)
 
 pub returns : goal.returns
 returns c =

@@ -1,4 +1,4 @@
-use Rattle.parquet_meta.proofs.ReadBackProved.{page_head_read, file_crypto_read, column_meta_read, file_fields_read, file_meta_read, signing_read}
+use Rattle.parquet_meta.proofs.ReadBackProved.{page_head_read, file_crypto_read, column_meta_read, raw_file_meta_read, file_meta_read, signing_read}
 use Rattle.parquet_meta.proofs.writing_laws.what_is_written_is_read.Goals as goal
 
 pub returns-clause-page_head : goal.returns-clause-page_head
@@ -10,8 +10,8 @@ returns-clause-file_crypto c = file_crypto_read
 pub returns-clause-column_meta : goal.returns-clause-column_meta
 returns-clause-column_meta c = column_meta_read
 
-pub returns-clause-file_fields : goal.returns-clause-file_fields
-returns-clause-file_fields c = file_fields_read
+pub returns-clause-raw_file_meta : goal.returns-clause-raw_file_meta
+returns-clause-raw_file_meta c = raw_file_meta_read
 
 pub returns-clause-file_meta : goal.returns-clause-file_meta
 returns-clause-file_meta c = file_meta_read

@@ -3,7 +3,7 @@ use Rattle.parquet_writing.specs.Plans.{total_uncompressed, total_stored}
 use Rattle.parquet_writing.specs.Putting.{IsWithin}
 use Rattle.parquet_writing.proofs.put_group.size_of.Given as goal
 
--- the sums so far and those of the chunks still to come are those of all
+-- The sums so far plus the sums of the remaining chunks are the sums of all chunks.
 abbrev pub invariant-loop-chunk : goal.invariant-loop-chunk
 invariant-loop-chunk l =
     (l.size.uncompressed +ℤ total_uncompressed (drop l.chunk-index l.items) ≡ total_uncompressed l.items)

@@ -6,7 +6,7 @@ use Rattle.plain_pages.proofs.levels.read_levels.Goals as goal
 
 pub returns-then-not-optional-clause-answers : goal.returns-then-not-optional-clause-answers
 unfolding levels_read
-returns-then-not-optional-clause-answers c = λ told.
+returns-then-not-optional-clause-answers c = λ answered.
     let required : c.args.optional ≡ false = c.if-not-optional.true in
     rw (required, ranks_of-required c.args.count, defined-required c.args.count, c.every.ensures)
 

@@ -2,15 +2,15 @@ use Rattle.std.proofs.Common.{refl, rules}
 use Rattle.command_parts.specs.World.{StopsWriting}
 use Rattle.command_parts.specs.Stops.{IsAboutFile}
 use Rattle.command_parts.proofs.TextAnswers.{text_completes, text_stops, plain_about}
-use Rattle.read_commands.specs.ModuleCommand.{is_module_cause}
-use Rattle.read_commands.proofs.Plaintexts.{module_done, module_completes, opening_ends, free_module_cause}
+use Rattle.read_commands.specs.ModuleCommand.{is_opening_cause}
+use Rattle.read_commands.proofs.Plaintexts.{module_done, module_completes}
 use Rattle.read_commands.proofs.module_command.module.Goals as goal
 
 pub returns : goal.returns
 returns g c = record {
   guarantees = λ draws err.
       let answered = c.print_text.ensures.answered _ _ (c.about.ensures.gives _ _ c.module_text-text.ensures.answer) in
-      let causes = c.print_text.ensures.causes is_module_cause (record { fault = refl; memory = refl }) (c.about.ensures.causes is_module_cause (opening_ends _ c.module_text-text.ensures.causes)) in
+      let causes = c.print_text.ensures.causes is_opening_cause (c.about.ensures.causes is_opening_cause c.module_text-text.ensures.causes) in
       let reads = c.print_text.ensures.reads _ _ (c.about.ensures.reads _ _ c.module_text-text.ensures.reads) in
       let writes : StopsWriting (g.O.Sink.faults c.args.out.now) (g.O.Sink.faults c.print_text.new.out) c.print_text.result = search rules in
       record {
@@ -23,7 +23,7 @@ returns g c = record {
           every = search rules;
         };
         done = module_done _ _ _ _ _ _ _ _ c.module_text-text.ensures.sealed (rw c.about.ensures.stop at c.print_text.ensures.printed);
-        complete = module_completes _ _ _ _ _ _ (text_completes _ _ _ _ _ _ _ _ _ is_module_cause free_module_cause answered reads writes causes);
+        complete = module_completes _ _ _ _ _ _ (text_completes _ _ _ _ _ _ _ _ _ is_opening_cause refl refl answered reads writes causes);
         subject = text_stops (IsAboutFile c.args.args.file) (plain_about c.args.args.file) _ _ c.about.ensures.named c.print_text.ensures.stops;
         field = c.module_text-text.ensures.field;
       };

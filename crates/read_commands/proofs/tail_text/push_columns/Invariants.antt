@@ -2,7 +2,7 @@ use Rattle.std.proofs.Common.{◌≡◌, ◌++◌, length}
 use Rattle.read_commands.specs.TailText.{column_lines}
 use Rattle.read_commands.proofs.tail_text.push_columns.Given as goal
 
--- the lines of the columns that are left complete the text
+-- the text so far, followed by the lines of the remaining columns, is the whole text
 abbrev pub invariant-loop-rest : goal.invariant-loop-rest
 invariant-loop-rest l = l.text ++ column_lines l.rest ≡ l.fn.text ++ column_lines l.columns
 

@@ -3,7 +3,7 @@ use Rattle.plain_pages.specs.ColumnSpecs.{IsColumnName}
 use Rattle.table_text.proofs.CellLemmas.{ascii_text}
 use Rattle.table_tests.proofs.pages.column_of.Goals as goal
 
--- the name `a`
+-- `a` is a valid column name
 named : IsColumnName (97 ∷ [])
 named = record { not_empty = lit< tt; utf8 = ascii_text (97 ∷ []) refl; short = lit≤ tt }
 

@@ -2,4 +2,4 @@ use Rattle.thrift_compact.proofs.Again.{value_again}
 use Rattle.thrift_compact.proofs.laws.what_is_spelled_is_read.Goals as goal
 
 pub returns : goal.returns
-returns c room k t front rest spelled = value_again t room k front rest spelled
+returns c depth k t front rest spelled = value_again t depth k front rest spelled

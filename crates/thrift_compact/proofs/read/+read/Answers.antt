@@ -1,8 +1,8 @@
 use Rattle.std.proofs.Common.{SFits, w16, arith, rules}
 use Rattle.std.proofs.lemmas.Int.{to_z-of_z}
 use Rattle.std.proofs.lemmas.Result.{err_from_is_err_and}
-use Rattle.thrift_compact.specs.Answers.{fails_on}
-use Rattle.thrift_compact.specs.Laws.{fields_no_head, fields_no_value}
+use Rattle.thrift_compact.proofs.Steps.{fails_on}
+use Rattle.thrift_compact.proofs.PartsLeft.{fields_no_head, fields_no_value}
 use Rattle.thrift_compact.proofs.Built.{item_pushed, list_done, map_begun, pair_pushed, pair_no_key, pair_no_value, map_done, struct_begun, field_pushed, struct_done}
 use Rattle.thrift_compact.proofs.read.+read.Goals as goal
 

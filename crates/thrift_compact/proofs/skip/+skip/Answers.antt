@@ -1,8 +1,8 @@
 use Rattle.std.proofs.Common.{arith}
 use Rattle.std.proofs.lemmas.Result.{err_from_is_err_and}
-use Rattle.thrift_compact.specs.Answers.{fails_on}
-use Rattle.thrift_compact.specs.Laws.{fields_no_head}
-use Rattle.thrift_compact.proofs.Passed.{item_passed, item_not_passed, map_passing, pair_passed, key_not_passed, value_not_passed, map_passed, field_passed, field_not_passed, struct_passed}
+use Rattle.thrift_compact.proofs.Steps.{fails_on}
+use Rattle.thrift_compact.proofs.PartsLeft.{fields_no_head}
+use Rattle.thrift_compact.proofs.Skipped.{item_skipped, item_not_skipped, map_skipping, pair_skipped, key_not_skipped, value_not_skipped, map_skipped, field_skipped, field_not_skipped, struct_skipped}
 use Rattle.thrift_compact.proofs.skip.+skip.Goals as goal
 
 pub skip_fields-returns-in_err-_id-clause-value : goal.skip_fields-returns-in_err-_id-clause-value
@@ -12,7 +12,7 @@ skip_fields-returns-in_err-_id-clause-value t c =
 
 pub skip_fields-loop-ids-preserved : goal.skip_fields-loop-ids-preserved
 skip_fields-loop-ids-preserved t c = (
-  field_passed _ _ _ _ _ _ _ _ _ _ c.loop-ids.invariant.0 c.in-Some.is c.in_ok-_id.ensures.value c.in_ok-_id.ensures.taken c.in_ok-skip_value.ensures.value (omega (arith, c.in_ok-_id.ensures.shorter, c.in_ok-skip_value.ensures.shorter)),
+  field_skipped _ _ _ _ _ _ _ _ _ _ c.loop-ids.invariant.0 c.in-Some.is c.in_ok-_id.ensures.value c.in_ok-_id.ensures.taken c.in_ok-skip_value.ensures.value (omega (arith, c.in_ok-_id.ensures.shorter, c.in_ok-skip_value.ensures.shorter)),
   omega (arith, c.in_ok-_id.ensures.shorter, c.in_ok-skip_value.ensures.shorter),
 )
 
@@ -20,42 +20,42 @@ pub skip_fields-returns-in_err-skip_value-clause-value :
     goal.skip_fields-returns-in_err-skip_value-clause-value
 skip_fields-returns-in_err-skip_value-clause-value t c =
     let p = err_from_is_err_and c.from_residual-in_err-skip_value.result c.from_residual-in_err-skip_value.ensures.1 in
-    rw (p.1, p.2) (fails_on _ _ _ (λ f e. field_not_passed _ _ _ _ _ _ _ _ f c.loop-ids.invariant.0 c.in-Some.is c.in_ok-_id.ensures.value e) c.in_err-skip_value.ensures.value)
+    rw (p.1, p.2) (fails_on _ _ _ (λ f e. field_not_skipped _ _ _ _ _ _ _ _ f c.loop-ids.invariant.0 c.in-Some.is c.in_ok-_id.ensures.value e) c.in_err-skip_value.ensures.value)
 
 pub skip_fields-returns-clause-value : goal.skip_fields-returns-clause-value
 skip_fields-returns-clause-value t c =
-    struct_passed _ _ _ _ _ _ c.loop-ids.invariant.0 c.in_default.is c.in_ok-_id.ensures.value
+    struct_skipped _ _ _ _ _ _ c.loop-ids.invariant.0 c.in_default.is c.in_ok-_id.ensures.value
 
 pub skip_list-returns-in_err-skip_element-clause-value :
     goal.skip_list-returns-in_err-skip_element-clause-value
 skip_list-returns-in_err-skip_element-clause-value t c =
     let p = err_from_is_err_and c.from_residual-in_err-skip_element.result c.from_residual-in_err-skip_element.ensures.1 in
-    rw (p.1, p.2) (fails_on _ _ _ (λ f e. item_not_passed _ _ _ _ _ f c.loop-turn-test.true c.loop-turn.invariant.0 e) c.in_err-skip_element.ensures.value)
+    rw (p.1, p.2) (fails_on _ _ _ (λ f e. item_not_skipped _ _ _ _ _ f c.loop-turn-test.true c.loop-turn.invariant.0 e) c.in_err-skip_element.ensures.value)
 
 pub skip_list-loop-turn-preserved : goal.skip_list-loop-turn-preserved
 skip_list-loop-turn-preserved t c =
-    (item_passed _ _ _ _ _ _ c.loop-turn-test.true c.loop-turn.invariant.0 c.in_ok-skip_element.ensures.value, omega (arith, c.in_ok-skip_element.ensures.shorter))
+    (item_skipped _ _ _ _ _ _ c.loop-turn-test.true c.loop-turn.invariant.0 c.in_ok-skip_element.ensures.value, omega (arith, c.in_ok-skip_element.ensures.shorter))
 
 pub skip_map-loop-turn-init : goal.skip_map-loop-turn-init
 skip_map-loop-turn-init t c =
-    (map_passing _ _ _ _ _ _ _ _ c.in_ok-inner.ensures c.in_ok-count.ensures.value (omega arith) c.in_ok-key_kind.ensures.value, omega (arith, c.in_ok-count.ensures.shorter, c.in_ok-key_kind.ensures.shorter))
+    (map_skipping _ _ _ _ _ _ _ _ c.in_ok-inner.ensures c.in_ok-count.ensures.value (omega arith) c.in_ok-key_kind.ensures.value, omega (arith, c.in_ok-count.ensures.shorter, c.in_ok-key_kind.ensures.shorter))
 
 pub skip_map-returns-in_err-skip_element-clause-value :
     goal.skip_map-returns-in_err-skip_element-clause-value
 skip_map-returns-in_err-skip_element-clause-value t c =
     let p = err_from_is_err_and c.from_residual-in_err-skip_element.result c.from_residual-in_err-skip_element.ensures.1 in
-    rw (p.1, p.2) (fails_on _ _ _ (λ f e. key_not_passed _ _ _ _ _ _ f c.loop-turn-test.true c.loop-turn.invariant.0 e) c.in_err-skip_element.ensures.value)
+    rw (p.1, p.2) (fails_on _ _ _ (λ f e. key_not_skipped _ _ _ _ _ _ f c.loop-turn-test.true c.loop-turn.invariant.0 e) c.in_err-skip_element.ensures.value)
 
 pub skip_map-returns-in_err-skip_element-2-clause-value :
     goal.skip_map-returns-in_err-skip_element-2-clause-value
 skip_map-returns-in_err-skip_element-2-clause-value t c =
     let p = err_from_is_err_and c.from_residual-in_err-skip_element-2.result c.from_residual-in_err-skip_element-2.ensures.1 in
-    rw (p.1, p.2) (fails_on _ _ _ (λ f e. value_not_passed _ _ _ _ _ _ _ f c.loop-turn-test.true c.loop-turn.invariant.0 c.in_ok-skip_element.ensures.value e) c.in_err-skip_element-2.ensures.value)
+    rw (p.1, p.2) (fails_on _ _ _ (λ f e. value_not_skipped _ _ _ _ _ _ _ f c.loop-turn-test.true c.loop-turn.invariant.0 c.in_ok-skip_element.ensures.value e) c.in_err-skip_element-2.ensures.value)
 
 pub skip_map-loop-turn-preserved : goal.skip_map-loop-turn-preserved
 skip_map-loop-turn-preserved t c =
-    (pair_passed _ _ _ _ _ _ _ _ c.loop-turn-test.true c.loop-turn.invariant.0 c.in_ok-skip_element.ensures.value c.in_ok-skip_element-2.ensures.value, omega (arith, c.in_ok-skip_element.ensures.shorter, c.in_ok-skip_element-2.ensures.shorter))
+    (pair_skipped _ _ _ _ _ _ _ _ c.loop-turn-test.true c.loop-turn.invariant.0 c.in_ok-skip_element.ensures.value c.in_ok-skip_element-2.ensures.value, omega (arith, c.in_ok-skip_element.ensures.shorter, c.in_ok-skip_element-2.ensures.shorter))
 
 pub skip_map-returns-clause-value : goal.skip_map-returns-clause-value
 skip_map-returns-clause-value t c =
-    map_passed _ _ _ _ _ _ c.loop-turn-test.false c.loop-turn.invariant.0
+    map_skipped _ _ _ _ _ _ c.loop-turn-test.false c.loop-turn.invariant.0

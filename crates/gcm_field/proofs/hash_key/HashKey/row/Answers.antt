@@ -6,7 +6,7 @@ use Rattle.gcm_field.specs.Field.{polynomial, prod}
 use Rattle.gcm_field.specs.Table.{multiple, table_row}
 use Rattle.gcm_field.proofs.hash_key.HashKey.row.Goals as goal
 
--- a row's block as a number
+-- the block of a row as a number
 digit_block : (d : ℕ) → from_be_bytes w128 (16 * d ∷ replicate 15 0) ≡ d * 2 ^ 124
 digit_block d = omega arith
 

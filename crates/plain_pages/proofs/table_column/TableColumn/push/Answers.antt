@@ -11,7 +11,7 @@ put_mark-requires c =
     let inside = c.self.inside in
     record {
       counted = kept_length inside.spec _ inside.count inside.levels.items inside.marks.items inside.values.items _ c.self.invariant;
-      room = c.self.invariant.roomy;
+      capacity = c.self.invariant.has_capacity;
     }
 
 pub put_level-requires : goal.put_level-requires
@@ -31,7 +31,7 @@ put_level-requires c =
     let one : IsCellOf inside.spec (cell_of c.args.cell) = rw spec c.requires in
     record {
       counted = λ optional. ap length c.put_mark.ensures.levels ∙ kept optional;
-      room = λ optional. omega (arith, c.put_mark.ensures.room optional, same, next.room, kept optional, k.counted, ap length c.put_mark.ensures.levels, c.put_mark.new.levels.ok);
+      capacity = λ optional. omega (arith, c.put_mark.ensures.capacity optional, same, next.capacity, kept optional, k.counted, ap length c.put_mark.ensures.levels, c.put_mark.new.levels.ok);
       required = λ required. c.level_of.ensures ∙ level_one inside.spec (cell_of c.args.cell) one required;
     }
 
@@ -55,7 +55,7 @@ invariant_of-self-2 c =
       named = k.named;
       counted = omega (arith, k.counted, ap length pushed, length-append cells (cell_of c.args.cell ∷ []));
       kept = rw marks (pushed_keeps inside.spec cells (cell_of c.args.cell) ls _ inside.values.items _ _ next one levels c.in_ok-put_value.ensures.put);
-      roomy = λ optional. rw c.put_level.ensures.capacity (c.put_mark.ensures.room optional);
+      has_capacity = λ optional. rw c.put_level.ensures.capacity (c.put_mark.ensures.capacity optional);
     }
 
 with_cells : (spec : ColumnSpec) (old : Column) (cells more : List Cell) (cell : Cell) → spec ≡ old.spec → cells ≡ old.cells → more ≡ cells ++ cell ∷ []

@@ -1,6 +1,6 @@
 use Rattle.std.proofs.Common.{◌-◌, arith}
 use Rattle.std.proofs.lemmas.Result.{err_from_is_err_and}
-use Rattle.thrift_compact.specs.Answers.{fails_on}
+use Rattle.thrift_compact.proofs.Steps.{fails_on}
 use Rattle.thrift_compact.proofs.Varints.{part_fails, part_fits, part_ends, part_more, part_last, part_long, at_turn, at_next, at_tenth}
 use Rattle.thrift_compact.proofs.cursor.Cursor.long_varint.Goals as goal
 
