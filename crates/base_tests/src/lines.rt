@@ -1,9 +1,10 @@
 // Tests of refusal_lines.
+use byte_texts::{push_decimal, push_hex, push_signed, push_text, push_truth};
 use pme_base::{
     Bytes, Cause, Detail, ItemWord, PagePart, Place, PlaceKind, Refusal, StructName, ThriftFault,
     refusal_at,
 };
-use refusal_lines::{push_decimal, push_hex, push_place, push_signed, push_text, refusal_line};
+use refusal_lines::{push_place, refusal_line};
 use std::process::Abort;
 use std::test::Fail;
 
@@ -126,16 +127,17 @@ fn adds_pieces_of_text(rt: HostRuntime) -> Result<(), Fail> {
     let alloc = rt.alloc();
     let mut line = Bytes::new(alloc);
     push_text(&mut line, "at ")?;
-    push_decimal(alloc, &mut line, 18_446_744_073_709_551_615)?;
-    push_signed(alloc, &mut line, -9_223_372_036_854_775_808)?;
-    push_hex(alloc, &mut line, &[0, 171, 255])?;
+    push_decimal(&mut line, 18_446_744_073_709_551_615)?;
+    push_signed(&mut line, -9_223_372_036_854_775_808)?;
+    push_hex(&mut line, &[0, 171, 255])?;
+    push_truth(&mut line, true)?;
+    push_truth(&mut line, false)?;
     push_place(
-        alloc,
         &mut line,
         &Place::at_column(PlaceKind::DictionaryPageHeader, 0, 32_767)?,
     )?;
     let expected =
-        b"at 18446744073709551615-922337203685477580800abffdictionary-header 0 32767".as_slice();
+        b"at 18446744073709551615-922337203685477580800abfftruefalsedictionary-header 0 32767".as_slice();
     assert_eq!(rt; line.as_slice(), expected);
     Ok(())
 }

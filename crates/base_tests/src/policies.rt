@@ -1,4 +1,4 @@
-// Texts of policies, and what each says or is refused by.
+// Texts of policies, each with its policy or the name for which it is refused.
 use json_text::hex_text;
 use key_material::{Policy, PolicyRefusal, policies_are_judged_by_name};
 use pme_base::{Bytes, OutOfMemory};
@@ -8,10 +8,10 @@ use std::test::Fail;
 // A line is `TEXT -> ANSWER`, and one that begins with # is a heading. ~ stands for `parquet.encryption.`, and |9*ab| for
 // nine times `ab`.
 //
-// ANSWER is `Bad` and a name, or of a policy the footer key's id, the columns that have keys, the columns under the footer
-// key, letters for what holds (uniform, ctr, plaintext footer, double wrapping, internal material, stored prefix), the
-// bits of data keys, the prefix in hex or -, and the rows of a group and of a page.
-// Each was worked out by hand from the table of names in docs/FORMAT.md.
+// ANSWER is `Bad` and a name. For a policy it is the id of the footer key, the columns with keys of their own, the columns
+// under the footer key, letters for the flags that are set (uniform, ctr, plaintext footer, double wrapping, internal
+// material, stored prefix), the length of data keys in bits, the prefix in hex or -, and the rows of a row group and of a
+// page. Each answer was derived by hand from the table of names in docs/FORMAT.md.
 const CASES: &str = r#"
 # No object.
  -> Bad 
@@ -112,7 +112,7 @@ const CASES: &str = r#"
 {"~footer.key":"kf","~kms.client.class":"x"} -> Bad ~kms.client.class
 {"~footer.key":"kf","pme.rows.per.groups":1} -> Bad pme.rows.per.groups
 {"~footer.key":"kf","Pme.rows.per.page":1} -> Bad Pme.rows.per.page
-# The first bad name in byte order is told, wherever it stands, and a missing footer key after all others.
+# The first bad name in byte order is reported, wherever it stands, and a missing footer key after all others.
 {"pme.rows.per.page":0,"x":1,"~footer.key":""} -> Bad ~footer.key
 {"pme.aad.prefix.stored":1,"pme.aad.prefix":1,"~footer.key":"kf"} -> Bad pme.aad.prefix
 {"~plaintext.footer":1,"~algorithm":1,"Z":1,"~footer.key":"kf"} -> Bad Z
@@ -203,7 +203,7 @@ fn shown(alloc: Global, policy: &Policy) -> Result<Bytes, Fail> {
     Ok(line)
 }
 
-fn told(alloc: Global, text: &[u8]) -> Result<Bytes, Fail> {
+fn answer_for(alloc: Global, text: &[u8]) -> Result<Bytes, Fail> {
     match Policy::parse(alloc, text) {
         Ok(policy) => shown(alloc, &policy),
         Err(PolicyRefusal::OutOfMemory) => Err(OutOfMemory.into()),
@@ -219,7 +219,7 @@ fn told(alloc: Global, text: &[u8]) -> Result<Bytes, Fail> {
 fn policies_are_read_or_refused_by_a_name(rt: HostRuntime) -> Result<(), Fail> {
     for case in CASES.lines() {
         if let Some((text, answer)) = case.split_once(" -> ") {
-            let policy = told(rt.alloc(), expanded(rt.alloc(), text)?.as_slice())?;
+            let policy = answer_for(rt.alloc(), expanded(rt.alloc(), text)?.as_slice())?;
             let expected = expanded(rt.alloc(), answer)?;
             assert_eq!(rt; policy.as_slice(), expected.as_slice(), "{text}");
         }

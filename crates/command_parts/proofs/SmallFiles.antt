@@ -1,8 +1,7 @@
 -- Reading a whole file gives at most its own bytes.
-use Rattle.std.proofs.Common.{◌≡◌, ◌≤◌, ℕ, ◌+◌, List, length, Option, Some, None, IfSome, Result, Ok, Err, refl, subst, arith}
+use Rattle.std.proofs.Common.{◌≡◌, ◌≤◌, ℕ, ◌+◌, List, length, Option, Some, None, IfSome, Ok, refl, arith}
 use Rattle.std.specs.Prelude.{unwrap_or, []}
 use Rattle.std.specs.FinMap.{get}
-use Rattle.pme_base.specs.declared.refusal.Refusal.{Refusal}
 use Rattle.pme_base.specs.Outside.{Published, bytes_of}
 use Rattle.pme_base.specs.Reading.{size_of}
 use Rattle.pme_base.specs.Steps.{Answers}

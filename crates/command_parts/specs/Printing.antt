@@ -1,9 +1,8 @@
 -- Printing to a sink.
-use Rattle.std.specs.Prelude.{ℕ, List, [], ◌∷◌, ◌++◌, Bool, true, false, Result, Ok, Err}
+use Rattle.std.specs.Prelude.{ℕ, List, [], ◌∷◌, ◌++◌, Bool, true, false}
 use Rattle.hex.specs.Hex.{encode_lower}
 use Rattle.pme_base.specs.declared.refusal.Cause.{Cause}
 use Rattle.pme_base.specs.declared.refusal.Cause.TheVariants.{WriteFault, OutOfMemory}
-use Rattle.pme_base.specs.declared.refusal.Refusal.{Refusal}
 
 -- bytes in lower-case hex, and a line feed
 abbrev pub hex_line : List ℕ → List ℕ

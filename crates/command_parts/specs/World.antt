@@ -1,5 +1,5 @@
 -- The state of the objects outside at one moment, and what every run guarantees between two such moments.
-use Rattle.std.specs.Prelude.{◌≡◌, ◌⊎◌, ℕ, ◌≤◌, List, Option, Result, Err, IfErr}
+use Rattle.std.specs.Prelude.{◌≡◌, ◌⊎◌, ℕ, ◌≤◌, List, Option, Result, IfErr}
 use Rattle.pme_base.specs.declared.refusal.Cause.TheVariants as cause_of
 use Rattle.pme_base.specs.Outside.{Published, followed_by}
 use Rattle.pme_base.specs.Counts.{Rose}

@@ -1,12 +1,10 @@
 -- What the drawing maker makes, from the results of its draws.
-use Rattle.std.proofs.Common.{◌≡◌, ℕ, zero, suc, ◌<◌, ◌≤◌, nat_le, true, false, Bool, List, [], ◌∷◌, ◌++◌, take, drop, length, Option, Some, None, option_map, IfSome, Result, Ok, Err, refl, sym, ◌∙◌, ap, subst, arith, take-append-drop}
+use Rattle.std.proofs.Common.{◌≡◌, ℕ, zero, suc, ◌<◌, ◌≤◌, nat_le, true, false, Bool, List, [], ◌∷◌, ◌++◌, take, drop, length, Option, Some, None, option_map, IfSome, Ok, refl, sym, ◌∙◌, ap, subst, arith, take-append-drop}
 use Rattle.std.specs.List.{All}
 use Rattle.pme_base.specs.Outside.{IsDrawn}
-use Rattle.key_rights.specs.declared.maker.MadeKey.{MadeKey}
-use Rattle.key_rights.specs.declared.maker.MakeRefusal.{MakeRefusal}
 use Rattle.key_rights.specs.declared.nonces.NonceOwner.{NonceOwner}
 use Rattle.key_rights.specs.declared.nonces.NonceOwner.TheVariants.{Master}
-use Rattle.key_rights.specs.Making.{Request, Draws, IsPart, TakesDrawn, behaviour_of, draws_of, onto}
+use Rattle.key_rights.specs.Making.{Request, IsPart, TakesDrawn, behaviour_of, draws_of, onto}
 use Rattle.key_rights.specs.Nonces.{Taken, is_taken, with_taken}
 use Rattle.crypto_tests.specs.Drawing.{drawing_step}
 

@@ -4,7 +4,7 @@ use Rattle.key_rights.specs.declared.maker.MadeKey.{MadeKey}
 use Rattle.key_rights.specs.declared.maker.MakeRefusal.{MakeRefusal}
 use Rattle.key_rights.specs.declared.maker.MakeRefusal.TheVariants.{Denied, NonceRepeated, RandomFault}
 use Rattle.key_rights.specs.declared.nonces.NonceOwner.TheVariants.{Master}
-use Rattle.key_rights.specs.Making.{Request, Draws, Step}
+use Rattle.key_rights.specs.Making.{Draws, Step}
 use Rattle.key_rights.specs.Nonces.{is_taken, with_taken}
 
 -- the next `n` bytes, and the bytes after them

@@ -1,4 +1,4 @@
--- Where members stand in byte order, the first bad one has the least of all bad names.
+-- Members are in byte order of their names, so the first bad one has the least of all bad names.
 use Rattle.std.proofs.Common.{◌≡◌, ℕ, List, Bool, true, false, Some, None, if◌then◌else◌, refl, sym, ap, subst, ◌∙◌}
 use Rattle.std.specs.Ordering.{nat_cmp, match_ordering, ordering_reverse}
 use Rattle.std.specs.declared.cmp.Ordering.{Ordering}
@@ -31,14 +31,14 @@ here n l e ms equal = ap (λ o. match_ordering o (get_member n ms) (Some e) (get
 further : (n l : List ℕ) (e : Data) (ms : Members) → order n l ≡ Greater → get_member n (member l e ms) ≡ get_member n ms
 further n l e ms greater = ap (λ o. match_ordering o (get_member n ms) (Some e) (get_member n ms)) greater
 
--- a name that comes before all others isn't there
+-- a name that comes before all names of the object isn't in it
 none_before : (m l : List ℕ) (ms : Members) → order m l ≡ Less → AllAfter l ms → get_member m ms ≡ None
 none_before m l no_members less after = refl
 none_before m l (member k e ms) less after =
     let first : order m k ≡ Less = nat_list_cmp_total.trans m l k less after.0 in
     ap (λ o. match_ordering o (get_member m ms) (Some e) (get_member m ms)) first ∙ none_before m l ms less after.1
 
--- a name that is there comes after each that all others come after
+-- a name of the object comes after each name that all of them come after
 is_after : (l n : List ℕ) (ms : Members) (value : Data) → AllAfter l ms → get_member n ms ≡ Some value → order l n ≡ Less
 is_after l n no_members value after is = cc is
 is_after l n (member k e ms) value after is =

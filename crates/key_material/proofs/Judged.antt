@@ -1,4 +1,4 @@
--- How a text is judged, told by the members of its object.
+-- The laws on policies, by the members of the object.
 use Rattle.std.proofs.Common.{◌≡◌, ◌⊎◌, inl, inr, ℕ, ◌&&◌, ◌||◌, Bool, true, false, not, List, [], Option, Some, None, IsSome, IfSome, is_some, option_and_then, Result, Ok, Err, refl, sym, ap, subst, ◌∙◌}
 use Rattle.std.specs.Prelude.{⊤}
 use Rattle.std.specs.Option.{ok_or, option_or}
@@ -46,7 +46,7 @@ module _ (d : Data) (ms : Members) (is_object : as_object d ≡ Some ms) where
         first = λ m other less stands. first.first m other less (member_of m (Some other) stands);
       }
 
-  -- a name that gives the footer key has the id of one
+  -- a valid name for the footer key holds a key id
   four : (b : Bool) → (b || false || false || false || false) ≡ true → b ≡ true
   four true is = refl
   four false is = cc is
@@ -126,8 +126,8 @@ accepted bytes policy is =
     let value = after (ok_or (json_of bytes) []) policy_of policy is in
     let members = after (ok_or (as_object value.0) []) (policy_of_members value.0) policy value.2 in
     let is_object = there (as_object value.0) [] members.0 members.1 in
-    let told = members_accepted value.0 members.0 is_object policy members.2 in
-    (value.0, there (json_of bytes) [] value.0 value.1, some_of (as_object value.0) members.0 is_object, told.0, told.1)
+    let judged = members_accepted value.0 members.0 is_object policy members.2 in
+    (value.0, there (json_of bytes) [] value.0 value.1, some_of (as_object value.0) members.0 is_object, judged.0, judged.1)
 
 in_order : (bytes : List ℕ) (d : Data) (ms : Members) → json_of bytes ≡ Some d → as_object d ≡ Some ms → AreInByteOrder ms
 in_order bytes d ms is is_object =

@@ -1,4 +1,4 @@
--- Each policy that a text gives keeps the rules.
+-- Each policy that was parsed keeps the rules.
 use Rattle.std.proofs.Common.{◌≡◌, ◌⊎◌, inl, ℕ, ◌==◌, ◌≤◌, ◌&&◌, ◌||◌, Bool, true, false, not, nat_le, List, [], ◌∷◌, length, map, All, Option, Some, None, IfSome, option_and_then, unwrap_or, if◌then◌else◌, Result, Ok, refl, sym, ap, subst, ◌∙◌, lit≤, arith}
 use Rattle.std.specs.Prelude.{⊤}
 use Rattle.std.specs.Option.{ok_or, option_or}
@@ -135,7 +135,7 @@ prefix_kept d bytes is =
     let good = passed is_prefix hex.0 bytes hex.2 in
     subst IsPrefix good.1 (prefix_is hex.0 good.0)
 
--- ---- what names say
+-- ---- the values of names
 
 module _ {T : Type 0} (P : T → Type 0) (kind : Data → Option T) (kept : (d : Data) (x : T) → kind d ≡ Some x → P x) where
   if_said : (o : Option T) → ((x : T) → o ≡ Some x → P x) → IfSome o P

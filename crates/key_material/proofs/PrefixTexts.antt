@@ -1,4 +1,4 @@
--- A text spells a prefix exactly where it is 2 to 2,048 hex digits, and an even number of them.
+-- A text is a prefix in hex if and only if it is an even number of 2 to 2,048 hex digits.
 use Rattle.std.proofs.Common.{◌≡◌, ℕ, ◌*◌, ◌%◌, ◌==◌, ◌&&◌, Bool, true, false, nat_le, List, length, Option, Some, None, is_some, option_and_then, if◌then◌else◌, refl, sym, ap, ◌∙◌, arith}
 use Rattle.std.specs.List.{list_all}
 use Rattle.std.proofs.lemmas.Bool.{false≢true}

@@ -1,4 +1,4 @@
--- What stands behind an answer that was given.
+-- Optional values that are there: where they come from.
 use Rattle.std.proofs.Common.{◌≡◌, ◌⊎◌, inl, inr, Bool, true, false, Option, Some, None, option_map, option_and_then, Result, Ok, Err, if◌then◌else◌, refl, ap}
 use Rattle.std.specs.Option.{ok_or}
 use Rattle.pme_base.specs.Steps.{◌>>=◌}

@@ -6,18 +6,18 @@ use Rattle.json_text.specs.Find.{as_str}
 use Rattle.key_material.specs.declared.policy.KeyedColumn.{KeyedColumn}
 use Rattle.key_material.specs.PolicyValues.{passing, is_id}
 
--- the parts of a text between the bytes that divide it; a text without such a byte is one part
+-- the parts of a text between dividing bytes; a text without such a byte is one part
 abbrev pub parts : ℕ → List ℕ → List (List ℕ)
 parts divider text = slice_split (λ b. b == divider) text
 
--- `column,column`: names that aren't empty, between commas
+-- `column,column`: names separated by commas, none of them empty
 abbrev pub is_name : List ℕ → Bool
 is_name name = not (length name == 0)
 
 abbrev pub are_names : List ℕ → Bool
 are_names text = list_all is_name (parts 44 text)
 
--- the empty text is the list of no name
+-- the empty text is the empty list
 unfoldable pub is_name_list : List ℕ → Bool
 is_name_list text = length text == 0 || are_names text
 
@@ -30,18 +30,18 @@ names_in d = option_map name_list (option_and_then (passing is_name_list) (as_st
 abbrev pub is_colon : ℕ → Bool
 is_colon b = b == 58
 
--- `id:column,column`: an id, and names after the first colon; without a colon there is no name
+-- `id:column,column`: a key id, and names after the first colon; a group without a colon has no name
 abbrev pub is_group : List ℕ → Bool
 is_group part = is_id (before_first is_colon part) && are_names (after_first is_colon part)
 
 abbrev pub are_groups : List ℕ → Bool
 are_groups text = list_all is_group (parts 59 text)
 
--- the empty text is the list of no key
+-- the empty text is the empty list of keys
 unfoldable pub is_key_list : List ℕ → Bool
 is_key_list text = length text == 0 || are_groups text
 
--- a column under the key of that id
+-- a column with the id of its key
 abbrev pub under_key : List ℕ → List ℕ → KeyedColumn
 under_key id column = record { id = id; column = column }
 

@@ -1,7 +1,7 @@
 -- The names of a policy.
 use Rattle.std.specs.Prelude.{ℕ, List, codes}
 
--- names that parquet-java has
+-- names of parquet-java
 abbrev pub footer_key : List ℕ
 footer_key = codes "parquet.encryption.footer.key"
 
@@ -26,7 +26,7 @@ store_internally = codes "parquet.encryption.key.material.store.internally"
 abbrev pub data_key_bits : List ℕ
 data_key_bits = codes "parquet.encryption.data.key.length.bits"
 
--- names of this project's own
+-- names of this project
 abbrev pub footer_columns : List ℕ
 footer_columns = codes "pme.footer.key.columns"
 

@@ -1,4 +1,4 @@
--- How a text is judged, told by the members of its object and not in the order in which they stand.
+-- Which texts are policies, by the members of the object, whatever their order.
 use Rattle.std.specs.Prelude.{◌≡◌, ◌⊎◌, ℕ, true, false, List, [], Some, None, IsSome, Ok, Err}
 use Rattle.std.specs.Ordering.{nat_cmp}
 use Rattle.std.specs.declared.cmp.Ordering.TheVariants.{Less}
@@ -10,7 +10,7 @@ use Rattle.key_material.specs.declared.policy.Policy.{Policy}
 use Rattle.key_material.specs.Names as name
 use Rattle.key_material.specs.PolicyText.{is_good, is_uniform, footer_id, settings, policy_of_text}
 
--- every name is good
+-- every name is known and has a valid value
 abbrev pub AllGood : Data → Type 0
 AllGood d = (n : List ℕ) (value : Data) → get n d ≡ Some value → is_good (is_uniform d) n value ≡ true
 
@@ -25,16 +25,16 @@ pub record IsFirstBad (d : Data) (n : List ℕ) : Type 0 where
 abbrev pub HasNoKey : Data → Type 0
 HasNoKey d = (get name.uniform_key d ≡ None) × (get name.footer_key d ≡ None)
 
--- the object is refused by that name
+-- the object is refused for that name
 abbrev pub IsRefusedBy : Data → List ℕ → Type 0
 IsRefusedBy d n = IsFirstBad d n ⊎ (AllGood d × HasNoKey d × (n ≡ name.footer_key))
 
--- a text with a policy is an object whose names are all good, and one gives the footer key
+-- an accepted text is an object whose names are all good, and one of them gives the footer key
 abbrev pub AcceptedAreGood : Type 0
 AcceptedAreGood = (bytes : List ℕ) (policy : Policy) → policy_of_text bytes ≡ Ok policy
     → (d : Data) × (json_of bytes ≡ Some d) × IsSome (as_object d) × AllGood d × ((id : List ℕ) × (footer_id d ≡ Some id) × (policy ≡ settings d id))
 
--- any other text is no object, or is one that is refused by that name
+-- a refused text isn't an object, or is an object that is refused for that name
 abbrev pub RefusedAreBad : Type 0
 RefusedAreBad = (bytes : List ℕ) (n : List ℕ) → policy_of_text bytes ≡ Err n
     → ((object_of bytes ≡ None) × (n ≡ [])) ⊎ ((d : Data) × (json_of bytes ≡ Some d) × IsSome (as_object d) × IsRefusedBy d n)

@@ -1,26 +1,26 @@
--- What each policy that was read keeps, so that a writer may rely on it.
+-- The rules that each parsed policy keeps, and on which a writer may rely.
 use Rattle.std.specs.Prelude.{◌≡◌, ◌⊎◌, ℕ, ◌≤◌, true, false, List, [], length, All, IfSome, IsUtf8}
 use Rattle.key_material.specs.declared.policy.KeyedColumn.{KeyedColumn}
 use Rattle.key_material.specs.declared.policy.Policy.{Policy}
 use Rattle.key_material.specs.PolicyValues.{has_divider}
 
--- the id of a key
+-- a key id
 pub record IsId (id : List ℕ) : Type 0 where
   pub utf8 : IsUtf8 id
   pub some : 1 ≤ length id
   pub short : length id ≤ 256
   pub undivided : has_divider id ≡ false
 
--- the name of a column
+-- a column name
 abbrev pub IsName : List ℕ → Type 0
 IsName name = 1 ≤ length name
 
--- a column under a key of its own
+-- a column with a key of its own
 pub record IsKeyed (key : KeyedColumn) : Type 0 where
   pub id : IsId key.id
   pub column : IsName key.column
 
--- the rows of a row group or a page
+-- the number of rows of a row group or a page
 abbrev pub IsRowCount : ℕ → Type 0
 IsRowCount rows = (1 ≤ rows) × (rows ≤ 16777216)
 

@@ -1,4 +1,4 @@
--- A policy as a JSON object: each of its names is known and has a value of the name's kind.
+-- A policy as a JSON object: each of its names is known and has a valid value.
 use Rattle.std.specs.Prelude.{◌≡◌, ℕ, ◌&&◌, ◌||◌, Bool, true, false, not, is_some, List, [], Option, Some, None, option_and_then, unwrap_or, Result, Ok, Err, ⊤}
 use Rattle.std.specs.Option.{ok_or, option_or}
 use Rattle.std.specs.Str.{bytes_eq}
@@ -23,7 +23,7 @@ names_keys n d =
     || (bytes_eq n name.column_keys && is_some (keys_in d))
     || (bytes_eq n name.footer_columns && is_some (names_in d))
 
--- names for how pages are written
+-- names for the layout
 unfoldable pub names_layout : List ℕ → Data → Bool
 names_layout n d =
     (bytes_eq n name.algorithm && is_some (ctr_in d))
@@ -32,17 +32,17 @@ names_layout n d =
     || (bytes_eq n name.rows_per_group && is_some (rows_in d))
     || (bytes_eq n name.rows_per_page && is_some (rows_in d))
 
--- names that are true or false
+-- names with a truth value
 unfoldable pub names_switch : List ℕ → Data → Bool
 names_switch n d =
     (bytes_eq n name.plaintext_footer || bytes_eq n name.double_wrapping || bytes_eq n name.store_internally || bytes_eq n name.prefix_stored)
     && is_some (as_bool d)
 
--- the name is known, and its value is of the name's kind
+-- the name is known and its value is valid
 unfoldable pub is_known : List ℕ → Data → Bool
 is_known n d = names_keys n d || names_layout n d || names_switch n d
 
--- names in whose place a uniform key stands, and which are bad beside it
+-- names that a uniform key replaces, and which are bad beside it
 unfoldable pub is_replaced : List ℕ → Bool
 is_replaced n = bytes_eq n name.footer_key || bytes_eq n name.column_keys || bytes_eq n name.footer_columns
 
@@ -53,11 +53,11 @@ is_good uniform n d = not (uniform && is_replaced n) && is_known n d
 unfoldable pub is_uniform : Data → Bool
 is_uniform d = is_some (get name.uniform_key d)
 
--- the id of the footer key, which a uniform key is too
+-- the id of the footer key; a uniform key is one
 unfoldable pub footer_id : Data → Option (List ℕ)
 footer_id d = option_and_then id_in (option_or (get name.uniform_key d) (get name.footer_key d))
 
--- what a name says, or what holds without it
+-- the value of a name, or its default
 abbrev pub said : {T : Type 0} → (Data → Option T) → List ℕ → T → Data → T
 said kind n default d = unwrap_or (option_and_then kind (get n d)) default
 
@@ -70,7 +70,7 @@ footer_columns d = said names_in name.footer_columns [] d
 unfoldable pub prefix : Data → Option (List ℕ)
 prefix d = option_and_then prefix_in (get name.prefix d)
 
--- the policy of an object, given the id of its footer key
+-- the policy of an object with this id of the footer key
 unfoldable pub settings : Data → List ℕ → Policy
 settings d id = record {
   uniform = is_uniform d;
@@ -88,12 +88,12 @@ settings d id = record {
   rows_per_page = said rows_in name.rows_per_page 1000 d;
 }
 
--- a name that is bad ends it
+-- a bad name is the refusal
 abbrev pub none_bad : Option (List ℕ) → Result ⊤ (List ℕ)
 none_bad None = Ok tt
 none_bad (Some n) = Err n
 
--- the policy of an object, or its first bad name in byte order; the footer key's name, where all names are good and
+-- the policy of an object, or its first bad name in byte order, or the name of the footer key if all names are valid and
 -- none gives that key
 abbrev pub policy_of_members : Data → Members → Result Policy (List ℕ)
 policy_of_members d ms = do
@@ -101,15 +101,15 @@ policy_of_members d ms = do
   id ← ok_or (footer_id d) name.footer_key
   Ok (settings d id)
 
--- the empty name, where it is no object
+-- the empty name, if it isn't an object
 abbrev pub policy_of : Data → Result Policy (List ℕ)
 policy_of d = ok_or (as_object d) [] >>= policy_of_members d
 
--- the policy of a text, or the name that it is refused by
+-- the policy of a text, or the name for which it is refused
 unfoldable pub policy_of_text : List ℕ → Result Policy (List ℕ)
 policy_of_text bytes = ok_or (json_of bytes) [] >>= policy_of
 
--- the refusal says so; want of memory may come at any text
+-- the refusal reports this name, or that memory was refused
 abbrev pub IsRefusalOf : Result Policy (List ℕ) → PolicyRefusal → Type 0
 IsRefusalOf text (Bad n) = text ≡ Err n
 IsRefusalOf text OutOfMemory = ⊤

@@ -10,7 +10,7 @@ use json_text::Value;
 use pme_base::{Bytes, OutOfMemory, Sequence};
 use std::alloc::Global;
 
-/// Whether the value is a list of columns with the ids of their keys.
+/// Whether the value is a valid list of key ids with columns.
 #[tactic(auto, unfolding(crate::specs::KeyLists::keys_in))]
 pub(crate) fn has_key_list(value: &Value) -> bool
     ensures { result ≡ is_some (lists.keys_in (view value.now)) }
@@ -21,7 +21,7 @@ pub(crate) fn has_key_list(value: &Value) -> bool
     }
 }
 
-/// The columns that the value lists with the ids of their keys.
+/// The columns in such a list, each with the id of its key; None if the list is invalid.
 #[tactic(auto, unfolding(crate::specs::KeyLists::keys_in))]
 pub(crate) fn keys_in(alloc: Global, value: &Value) -> Result<Option<ColumnKeyList>, OutOfMemory>
     ensures { IfOk result (λ keys. keys ≡ lists.keys_in (view value.now)) }
@@ -35,7 +35,7 @@ pub(crate) fn keys_in(alloc: Global, value: &Value) -> Result<Option<ColumnKeyLi
     }
 }
 
-/// Whether the value is a list of columns.
+/// Whether the value is a valid list of columns.
 #[tactic(auto, unfolding(crate::specs::KeyLists::names_in))]
 pub(crate) fn has_name_list(value: &Value) -> bool
     ensures { result ≡ is_some (lists.names_in (view value.now)) }
@@ -46,7 +46,7 @@ pub(crate) fn has_name_list(value: &Value) -> bool
     }
 }
 
-/// The columns that the value lists.
+/// The columns in such a list; None if the list is invalid.
 #[tactic(auto, unfolding(crate::specs::KeyLists::names_in))]
 pub(crate) fn names_in(alloc: Global, value: &Value) -> Result<Option<NameList>, OutOfMemory>
     ensures { IfOk result (λ names. names ≡ lists.names_in (view value.now)) }

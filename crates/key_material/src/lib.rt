@@ -1,4 +1,4 @@
-// What a writer is told about keys and layout: the policy, a JSON text.
+//! The policy of a new file, a JSON text: its keys, its footer mode, and the layout of its pages.
 #![tactic(auto)]
 
 mod key_lists;

@@ -1,4 +1,4 @@
-// The names of a policy, and which values each may have.
+// The names of a policy, and the values that each may have.
 ghost use Rattle.std.specs.Prelude.{◌≡◌};
 ghost use Rattle.json_text.specs.View.{view};
 ghost use Rattle.key_material.specs.PolicyText as text;
@@ -7,7 +7,7 @@ use crate::key_lists::{has_key_list, has_name_list};
 use crate::values::{bits_in, ctr_in, has_prefix, id_in, rows_in};
 use json_text::Value;
 
-// Names that parquet-java has.
+// Names of parquet-java.
 pub(crate) const FOOTER_KEY: &str = "parquet.encryption.footer.key";
 
 pub(crate) const UNIFORM_KEY: &str = "parquet.encryption.uniform.key";
@@ -24,7 +24,7 @@ pub(crate) const STORE_INTERNALLY: &str = "parquet.encryption.key.material.store
 
 pub(crate) const DATA_KEY_BITS: &str = "parquet.encryption.data.key.length.bits";
 
-// Names of this project's own.
+// Names of this project.
 pub(crate) const FOOTER_COLUMNS: &str = "pme.footer.key.columns";
 
 pub(crate) const PREFIX: &str = "pme.aad.prefix";
@@ -35,8 +35,8 @@ pub(crate) const ROWS_PER_GROUP: &str = "pme.rows.per.group";
 
 pub(crate) const ROWS_PER_PAGE: &str = "pme.rows.per.page";
 
-/// Whether the name is one of a policy's and has a value that it may have. `uniform` says whether the policy has a
-/// uniform key, beside which some names are bad.
+/// Whether the name is known and has a valid value. `uniform` says whether the policy has a uniform key, which excludes
+/// some other names.
 #[tactic(auto, unfolding(crate::specs::PolicyText::is_good))]
 pub(crate) fn is_good(uniform: bool, name: &str, value: &Value) -> bool
     ensures { result ≡ text.is_good uniform name.now (view value.now) }

@@ -1,4 +1,4 @@
-// A policy: which keys a written file gets, how its footer is kept, and how its rows are cut into pages.
+// A policy: the keys of a new file, its footer mode, and the sizes of its row groups and pages.
 ghost use Rattle.std.specs.Prelude.{◌≡◌, Err, Ok, IfOk, IfErr, IfSome, option_map};
 ghost use Rattle.json_text.specs.Find.{as_bool};
 ghost use Rattle.json_text.specs.View.{view, members_view};
@@ -36,25 +36,24 @@ pub type ColumnKeyList = Sequence<KeyedColumn>;
 /// Names of columns.
 pub type NameList = Sequence<Bytes>;
 
-/// What a writer is asked to do. A column that is named in neither list is written plain, or under the footer key
-/// where that key is uniform.
+/// How a file is to be written. A column in neither list is plain, or encrypted with the footer key if `uniform` is set.
 #[derive(Drop)]
 pub struct Policy {
-    /// Whether every column is under the footer key.
+    /// Whether every column is encrypted with the footer key.
     pub uniform: bool,
     /// The id of the footer key.
     pub footer_key: Bytes,
-    /// The columns that have keys of their own.
+    /// The columns with keys of their own.
     pub column_keys: ColumnKeyList,
-    /// The columns under the footer key.
+    /// The columns that are encrypted with the footer key.
     pub footer_columns: NameList,
-    /// Whether pages are written under AES_GCM_CTR_V1 and not AES_GCM_V1.
+    /// Whether the algorithm is AES_GCM_CTR_V1 instead of AES_GCM_V1.
     pub ctr: bool,
-    /// Whether the footer is signed and stays readable.
+    /// Whether the footer is plaintext and signed instead of encrypted.
     pub plaintext_footer: bool,
-    /// Whether data keys are wrapped by keys that a master key wraps, and not by the master key.
+    /// Whether data keys are wrapped by a key encryption key, which the master key wraps, instead of by the master key.
     pub double: bool,
-    /// Whether key material is kept in the file itself.
+    /// Whether key material is stored in the file itself.
     pub internal: bool,
     /// The length of data keys in bits: 128, 192 or 256.
     pub bits: u32,
@@ -68,11 +67,11 @@ pub struct Policy {
     pub rows_per_page: u32,
 }
 
-/// Why a policy was not read.
+/// Why a text isn't a policy.
 #[derive(Debug, Drop, Error)]
 pub enum PolicyRefusal {
-    /// The first name in byte order that is unknown or has another value than the name may have; the footer key's
-    /// name where all are good and no name gives that key; the empty text where the bytes are no object.
+    /// The first name in byte order that is unknown or has an invalid value. If all names are valid and none gives the
+    /// footer key, the name of the footer key. If the bytes aren't a JSON object, the empty name.
     #[error("Bad")]
     Bad(Bytes),
     /// Memory was refused.
@@ -91,8 +90,7 @@ impl From<OutOfMemory> for PolicyRefusal {
 }
 
 impl Policy {
-    /// Reads a policy: a JSON object with the names of `docs/FORMAT.md`. Where a name stands twice, its last value
-    /// stays.
+    /// Parses a policy: a JSON object with the names of `docs/FORMAT.md`. If a name is repeated, its last value counts.
     #[tactic(auto, unfolding(crate::specs::PolicyText::policy_of_text))]
     pub fn parse(alloc: Global, bytes: &[u8]) -> Result<Policy, PolicyRefusal>
         ensures ok { IfOk result (λ policy. text.policy_of_text bytes.now ≡ Ok policy) }
@@ -145,7 +143,7 @@ fn is_uniform(value: &Value) -> bool
     value.get(UNIFORM_KEY).is_some()
 }
 
-// The id of the footer key, which the name for a uniform key gives too.
+// The id of the footer key, by the name for a uniform key or the name for a footer key.
 #[tactic(auto, unfolding(crate::specs::PolicyText::footer_id))]
 fn footer_id(value: &Value) -> Option<&str>
     ensures { option_map (λ id. id.now) result ≡ text.footer_id (view value.now) }
@@ -156,7 +154,7 @@ fn footer_id(value: &Value) -> Option<&str>
     }
 }
 
-// The policy of an object whose names are all good.
+// The policy of an object whose names are all valid.
 #[tactic(auto, unfolding(crate::specs::PolicyText::settings))]
 fn settings(alloc: Global, value: &Value, id: &str) -> Result<Policy, OutOfMemory>
     ensures { IfOk result (λ policy. policy ≡ text.settings (view value.now) id.now) }

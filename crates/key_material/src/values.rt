@@ -1,4 +1,4 @@
-// What the value of a name may be.
+// The values of a policy's names.
 ghost use Rattle.std.specs.Prelude.{◌≡◌, is_some, option_map, IfOk};
 ghost use Rattle.std.specs.List.{list_all};
 ghost use Rattle.json_text.specs.View.{view};
@@ -9,13 +9,13 @@ use json_text::{Value, bytes_of_hex};
 use pme_base::{Bytes, OutOfMemory};
 use std::alloc::Global;
 
-/// The most rows of a row group or a page.
+/// Largest number of rows of a row group or a page.
 const MOST_ROWS: u64 = 16_777_216;
 
-/// The most bytes of a prefix.
+/// Size limit of a prefix in bytes.
 const MOST_PREFIX: usize = 1_024;
 
-/// Whether the text is an id of a key.
+/// Whether the text is a valid key id.
 #[tactic(auto, unfolding(crate::specs::PolicyValues::is_id))]
 pub(crate) fn is_id(text: &str) -> bool
     ensures { result ≡ kind.is_id text.now }
@@ -29,7 +29,7 @@ fn has_divider(text: &[u8]) -> bool
     text.iter().any(|b| *b == b':' || *b == b';' || *b == b',')
 }
 
-/// The id that the value is.
+/// The key id that the value holds; None if it holds none.
 #[tactic(auto, unfolding(crate::specs::PolicyValues::id_in))]
 pub(crate) fn id_in(value: &Value) -> Option<&str>
     ensures { option_map (λ id. id.now) result ≡ kind.id_in (view value.now) }
@@ -40,7 +40,7 @@ pub(crate) fn id_in(value: &Value) -> Option<&str>
     }
 }
 
-/// Whether the algorithm that the value names is AES_GCM_CTR_V1.
+/// Whether the value names AES_GCM_CTR_V1; None if it names no algorithm.
 #[tactic(auto, unfolding(crate::specs::PolicyValues::ctr_in))]
 pub(crate) fn ctr_in(value: &Value) -> Option<bool>
     ensures { result ≡ kind.ctr_in (view value.now) }
@@ -55,7 +55,7 @@ pub(crate) fn ctr_in(value: &Value) -> Option<bool>
     }
 }
 
-/// The length of a data key in bits.
+/// The length of data keys in bits that the value holds; None if it holds none.
 #[tactic(auto, unfolding(crate::specs::PolicyValues::bits_in))]
 pub(crate) fn bits_in(value: &Value) -> Option<u32>
     ensures { result ≡ kind.bits_in (view value.now) }
@@ -68,7 +68,7 @@ pub(crate) fn bits_in(value: &Value) -> Option<u32>
     }
 }
 
-/// A number of rows.
+/// The number of rows that the value holds; None if it holds none.
 #[tactic(auto, unfolding(crate::specs::PolicyValues::rows_in))]
 pub(crate) fn rows_in(value: &Value) -> Option<u32>
     ensures { result ≡ kind.rows_in (view value.now) }
@@ -81,7 +81,7 @@ pub(crate) fn rows_in(value: &Value) -> Option<u32>
     }
 }
 
-/// Whether the value is the hex of a prefix.
+/// Whether the value is a prefix in hex.
 #[tactic(auto, using(crate::proofs::PrefixTexts::prefix_texts), unfolding(crate::specs::PolicyValues::prefix_in))]
 pub(crate) fn has_prefix(value: &Value) -> bool
     ensures { result ≡ is_some (kind.prefix_in (view value.now)) }
@@ -105,7 +105,7 @@ fn has_digits(text: &[u8]) -> bool
     text.iter().all(u8::is_ascii_hexdigit)
 }
 
-/// The prefix of which the value is the hex.
+/// The prefix that the value holds in hex; None if it holds none.
 #[tactic(auto, unfolding(crate::specs::PolicyValues::prefix_in, crate::specs::PolicyValues::prefix_of))]
 pub(crate) fn prefix_in(alloc: Global, value: &Value) -> Result<Option<Bytes>, OutOfMemory>
     ensures { IfOk result (λ prefix. prefix ≡ kind.prefix_in (view value.now)) }

@@ -1,14 +1,14 @@
 -- A keys file as a key maker: the key with the id, whose metadata is the id itself. Nothing is drawn.
-use Rattle.std.specs.Prelude.{ℕ, Bool, true, false, List, Option, None, Result, Ok, Err}
+use Rattle.std.specs.Prelude.{ℕ, Bool, true, false, List, None, Result, Ok, Err}
 use Rattle.pme_base.specs.Steps.{◌>>=◌}
 use Rattle.key_rights.specs.declared.finder.KeyAnswer.{KeyAnswer}
-use Rattle.key_rights.specs.declared.finder.KeyAnswer.TheVariants.{Held, Absent, Refused}
+use Rattle.key_rights.specs.declared.finder.KeyAnswer.TheVariants.{Held}
 use Rattle.key_rights.specs.declared.id_key.IdKey.{IdKey}
 use Rattle.key_rights.specs.declared.maker.MadeKey.{MadeKey}
 use Rattle.key_rights.specs.declared.maker.MakeRefusal.{MakeRefusal}
 use Rattle.key_rights.specs.declared.maker.MakeRefusal.TheVariants.{Denied}
 use Rattle.key_rights.specs.KeysFile.{key_by_id}
-use Rattle.key_rights.specs.Making.{Request, Draws, Step, Behaviour, behaviour_of}
+use Rattle.key_rights.specs.Making.{Step, Behaviour, behaviour_of}
 
 abbrev pub is_held : KeyAnswer → Bool
 is_held (Held key) = true

@@ -1,5 +1,5 @@
 -- Each command guarantees what every run does.
-use Rattle.std.proofs.Common.{rules, Option, Some, None, Result, Ok, Err}
+use Rattle.std.proofs.Common.{rules, Option, Some, None, Result, Err}
 use Rattle.command_line.specs.declared.command.Command.{Command}
 use Rattle.command_line.specs.declared.command.Command.TheVariants.{Module, Thrift, Footer}
 use Rattle.pme_base.specs.declared.refusal.Cause.TheVariants.{OutOfMemory}

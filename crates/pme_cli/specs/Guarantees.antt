@@ -1,5 +1,5 @@
 -- What a run guarantees, by its command.
-use Rattle.std.specs.Prelude.{◌≡◌, ℕ, Bool, true, false, List, Option, Some, None, IsNone, IfSome, Result, Ok, Err}
+use Rattle.std.specs.Prelude.{◌≡◌, ℕ, Bool, true, false, Option, Some, None, IsNone, IfSome, Result, Ok, Err}
 use Rattle.command_line.specs.declared.command.Command.{Command}
 use Rattle.command_line.specs.declared.command.Command.TheVariants.{Module, Thrift, Footer}
 use Rattle.pme_base.specs.declared.outside.Trouble.{Trouble}

@@ -1,5 +1,5 @@
 -- The outcomes of `module`: its text is the plaintext of the module that the file is.
-use Rattle.std.proofs.Common.{◌≡◌, ℕ, List, Option, Some, None, IfSome, IsSomeAnd, Result, Ok, Err, OnOk, IsOkAnd, refl, ◌∙◌, ap, lit≤}
+use Rattle.std.proofs.Common.{◌≡◌, ℕ, List, Option, Some, None, IfSome, IsSomeAnd, Result, Ok, Err, OnOk, IsOkAnd, ◌∙◌, ap, lit≤}
 use Rattle.std.specs.Prelude.{IfOk, true}
 use Rattle.std.specs.FinMap.{get}
 use Rattle.pme_base.specs.declared.refusal.Refusal.{Refusal}

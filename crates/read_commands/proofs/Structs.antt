@@ -1,6 +1,6 @@
 -- The outcomes of `thrift`: its text is the text of the tree that the start of the file spells.
 use Rattle.std.proofs.Common.{◌≡◌, ℕ, ◌-◌, ◌≤◌, List, take, drop, length, Option, Some, None, IfSome, IsSomeAnd, Result, Ok, Err, OnOk, refl, sym, ◌∙◌, ap, subst, arith, length-drop, take-append-drop}
-use Rattle.std.specs.Prelude.{IfOk, IsOkAnd, true, false, nat_lt}
+use Rattle.std.specs.Prelude.{IfOk, IsOkAnd, false, nat_lt}
 use Rattle.std.specs.FinMap.{get}
 use Rattle.pme_base.specs.declared.refusal.Refusal.{Refusal}
 use Rattle.pme_base.specs.Outside.{Published, followed_by}

@@ -16,7 +16,7 @@ use Rattle.footer_modes.specs.declared.tail.Tail.{Tail}
 use Rattle.footer_modes.specs.TailOf.{asks_of}
 use Rattle.footer_modes.proofs.TailsLaid.{laid_if_read}
 use Rattle.command_parts.specs.declared.stop.Stop.{Stop}
-use Rattle.command_parts.specs.Stops.{subject_by, about, stop_of, plain_stop, IsAboutFile}
+use Rattle.command_parts.specs.Stops.{subject_by, about, stop_of, plain_stop}
 use Rattle.refusal_lines.specs.declared.cause_table.LineForm.TheVariants as form
 use Rattle.refusal_lines.specs.CauseRows.{line_form}
 use Rattle.command_parts.specs.Printing.{is_printing_cause}

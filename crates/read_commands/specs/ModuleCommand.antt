@@ -1,5 +1,5 @@
 -- `module`: opens the module that fills a file, and prints its plaintext in hex.
-use Rattle.std.specs.Prelude.{◌≡◌, ℕ, ◌+◌, ◌≤◌, Bool, true, List, Option, IfSome, IsSomeAnd, Result, Ok, OnOk, IfErr}
+use Rattle.std.specs.Prelude.{◌≡◌, ℕ, ◌+◌, ◌≤◌, Bool, List, Option, IfSome, IsSomeAnd, Result, Ok, OnOk, IfErr}
 use Rattle.std.specs.FinMap.{get}
 use Rattle.pme_base.specs.declared.limits.TheConstants.{MODULE_LIMIT}
 use Rattle.pme_base.specs.declared.refusal.Cause.{Cause}

@@ -4,11 +4,11 @@ ghost use Rattle.hex.specs.Hex.{encode_lower};
 ghost use Rattle.table_text.specs.Texts as texts;
 ghost use Rattle.read_commands.specs.TailText as defined;
 
+use byte_texts::{push_decimal, push_hex, push_signed, push_text};
 use command_line::AadPrefix;
 use footer_modes::{FooterMode, Protection, Tail};
 use parquet_types::{AlgorithmMeta, ColumnSpec};
 use pme_base::{Bytes, OutOfMemory};
-use refusal_lines::{push_decimal, push_hex, push_signed, push_text};
 use std::alloc::Global;
 use table_text::heading_text;
 
@@ -22,14 +22,9 @@ pub fn tail_text(
 {
     let mut text = Bytes::new(alloc);
     push_mode(&mut text, tail.mode)?;
-    push_protection(alloc, &mut text, &tail.protection, supplied)?;
+    push_protection(&mut text, &tail.protection, supplied)?;
     push_columns(alloc, &mut text, tail.footer.schema.as_slice())?;
-    push_counts(
-        alloc,
-        &mut text,
-        tail.footer.groups.len(),
-        tail.footer.num_rows,
-    )?;
+    push_counts(&mut text, tail.footer.groups.len(), tail.footer.num_rows)?;
     Ok(text)
 }
 
@@ -46,7 +41,6 @@ fn push_mode(text: &mut Bytes, mode: FooterMode) -> Result<(), OutOfMemory>
 
 /// The lines about the algorithm and the associated data; none for an unencrypted footer.
 fn push_protection(
-    alloc: Global,
     text: &mut Bytes,
     protection: &Option<Protection>,
     supplied: &Option<AadPrefix>,
@@ -55,13 +49,12 @@ fn push_protection(
         ≡ text.old ++ defined.protection_lines protection.now supplied.now) }
 {
     match protection {
-        Some(protection) => push_algorithm_lines(alloc, text, &protection.algorithm, supplied),
+        Some(protection) => push_algorithm_lines(text, &protection.algorithm, supplied),
         None => Ok(()),
     }
 }
 
 fn push_algorithm_lines(
-    alloc: Global,
     text: &mut Bytes,
     algorithm: &AlgorithmMeta,
     supplied: &Option<AadPrefix>,
@@ -70,8 +63,8 @@ fn push_algorithm_lines(
         ≡ text.old ++ defined.algorithm_lines algorithm.now supplied.now) }
 {
     push_algorithm(text, algorithm.ctr)?;
-    push_hex_line(alloc, text, "unique ", algorithm.unique.as_slice())?;
-    push_prefix(alloc, text, algorithm, supplied)
+    push_hex_line(text, "unique ", algorithm.unique.as_slice())?;
+    push_prefix(text, algorithm, supplied)
 }
 
 /// The algorithm's name, by whether page bodies are sealed in counter mode alone.
@@ -94,22 +87,16 @@ fn push_algorithm(text: &mut Bytes, ctr: bool) -> Result<(), OutOfMemory>
 }
 
 /// A line of a name and bytes in hex.
-fn push_hex_line(
-    alloc: Global,
-    text: &mut Bytes,
-    name: &str,
-    bytes: &[u8],
-) -> Result<(), OutOfMemory>
+fn push_hex_line(text: &mut Bytes, name: &str, bytes: &[u8]) -> Result<(), OutOfMemory>
     ensures { OnOk result (text.new
         ≡ text.old ++ defined.line_of name.now (encode_lower bytes.now)) }
 {
     push_text(text, name)?;
-    push_hex(alloc, text, bytes)?;
+    push_hex(text, bytes)?;
     text.push(b'\n')
 }
 
 fn push_prefix(
-    alloc: Global,
     text: &mut Bytes,
     algorithm: &AlgorithmMeta,
     supplied: &Option<AadPrefix>,
@@ -118,14 +105,13 @@ fn push_prefix(
         (defined.prefix_words algorithm.now.prefix algorithm.now.supply supplied.now)) }
 {
     match &algorithm.prefix {
-        Some(stored) => push_hex_line(alloc, text, "prefix stored ", stored.as_slice()),
-        None => push_unstored(alloc, text, algorithm.supply, supplied),
+        Some(stored) => push_hex_line(text, "prefix stored ", stored.as_slice()),
+        None => push_unstored(text, algorithm.supply, supplied),
     }
 }
 
 /// The line about a prefix that the file doesn't store.
 fn push_unstored(
-    alloc: Global,
     text: &mut Bytes,
     supply: bool,
     supplied: &Option<AadPrefix>,
@@ -137,7 +123,7 @@ fn push_unstored(
         return push_text(text, "prefix none\n");
     }
     match supplied {
-        Some(prefix) => push_hex_line(alloc, text, "prefix supplied ", prefix.as_slice()),
+        Some(prefix) => push_hex_line(text, "prefix supplied ", prefix.as_slice()),
         None => push_text(text, "prefix none\n"),
     }
 }
@@ -164,12 +150,12 @@ fn push_column(alloc: Global, text: &mut Bytes, column: &ColumnSpec) -> Result<(
     text.push(b'\n')
 }
 
-fn push_counts(alloc: Global, text: &mut Bytes, groups: usize, rows: i64) -> Result<(), OutOfMemory>
+fn push_counts(text: &mut Bytes, groups: usize, rows: i64) -> Result<(), OutOfMemory>
     ensures { OnOk result (text.new ≡ text.old ++ defined.count_line groups rows) }
 {
     push_text(text, "groups ")?;
-    push_decimal(alloc, text, groups as u64)?;
+    push_decimal(text, groups as u64)?;
     push_text(text, " rows ")?;
-    push_signed(alloc, text, rows)?;
+    push_signed(text, rows)?;
     text.push(b'\n')
 }

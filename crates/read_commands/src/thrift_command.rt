@@ -10,13 +10,13 @@ ghost use Rattle.command_parts.specs.World.{RandomState, SinkState, world_with};
 ghost use Rattle.read_commands.specs.ThriftCommand.{ThriftGuarantees, IsTextOf, IsFileText, is_thrift_cause};
 ghost use Rattle.read_commands.specs.ThriftCommand as defined;
 
+use byte_texts::push_decimal;
 use command_line::ThriftArgs;
 use command_parts::{Stop, about, print_text, read_small};
 use pme_base::{
     Bytes, Cause, Detail, Files, OutOfMemory, Place, Refusal, SMALL_FILE_LIMIT, Sink,
     plain_refusal, refusal_at,
 };
-use refusal_lines::push_decimal;
 use std::alloc::Global;
 use thrift_compact::{TVal, ThriftRefusal, read_tree, show_tree};
 
@@ -89,7 +89,7 @@ fn tree_text(alloc: Global, tree: &TVal, rest: usize) -> Result<Bytes, OutOfMemo
     let mut text = Bytes::new(alloc);
     show_tree(tree, &mut text)?;
     text.extend(b"\nrest ")?;
-    push_decimal(alloc, &mut text, rest as u64)?;
+    push_decimal(&mut text, rest as u64)?;
     text.push(b'\n')?;
     Ok(text)
 }

@@ -11,5 +11,4 @@ mod words;
 
 pub use cause_table::{LineForm, cause_name, line_form, status_number};
 pub use line::refusal_line;
-pub use pieces::{push_decimal, push_hex, push_signed, push_text};
 pub use place_text::push_place;

@@ -8,8 +8,8 @@ ghost use Rattle.plain_pages.specs.Cells.{cell_of};
 ghost use Rattle.plain_pages.specs.Columns.{IsCellOf};
 ghost use Rattle.table_text.specs.Texts as texts;
 
+use byte_texts::{allocator_of, push_decimal, push_hex, push_signed, push_truth};
 use csv::WriterBuilder;
-use itoa::Buffer;
 use parquet_types::{ColumnKind, ColumnSpec, FlatSchema};
 use plain_pages::CellRef;
 use pme_base::{Bytes, OutOfMemory, Sequence};
@@ -31,31 +31,11 @@ pub fn cell_text(spec: &ColumnSpec, cell: CellRef<'_>, into: &mut Bytes) -> Resu
 {
     match cell {
         CellRef::Null => into.extend(b"\\N"),
-        CellRef::Bool(value) => push_truth(value, into),
-        CellRef::Int32(number) => push_number(i64::from(number), into),
-        CellRef::Int64(number) => push_number(number, into),
+        CellRef::Bool(value) => push_truth(into, value),
+        CellRef::Int32(number) => push_signed(into, i64::from(number)),
+        CellRef::Int64(number) => push_signed(into, number),
         CellRef::Bytes(bytes) => push_bytes(spec.kind, spec.text, bytes, into),
     }
-}
-
-fn push_truth(value: bool, into: &mut Bytes) -> Result<(), OutOfMemory>
-    ensures written { OnOk result (into.new ≡ into.old ++ (if value then codes "true"
-        else codes "false")) }
-    ensures unchanged { OnErr result (into.new ≡ into.old) }
-{
-    if value {
-        into.extend(b"true")
-    } else {
-        into.extend(b"false")
-    }
-}
-
-fn push_number(number: i64, into: &mut Bytes) -> Result<(), OutOfMemory>
-    ensures written { OnOk result (into.new ≡ into.old ++ signed_decimal number) }
-    ensures unchanged { OnErr result (into.new ≡ into.old) }
-{
-    let mut buffer = Buffer::new();
-    into.extend(buffer.format(number).as_bytes())
 }
 
 /// Appends a byte array: text for a text column, hex for every other one.
@@ -73,10 +53,10 @@ fn push_bytes(
             if text {
                 push_escaped(bytes, into)
             } else {
-                push_hex(bytes, into)
+                push_hex(into, bytes)
             }
         }
-        _ => push_hex(bytes, into),
+        _ => push_hex(into, bytes),
     }
 }
 
@@ -92,24 +72,6 @@ fn push_escaped(text: &[u8], into: &mut Bytes) -> Result<(), OutOfMemory>
     escaped.push(b'\\')?;
     escaped.extend(text)?;
     into.extend(escaped.as_slice())
-}
-
-fn push_hex(bytes: &[u8], into: &mut Bytes) -> Result<(), OutOfMemory>
-    ensures written { OnOk result (into.new ≡ into.old ++ encode_lower bytes.now) }
-    ensures unchanged { OnErr result (into.new ≡ into.old) }
-{
-    let text = hex::encode(allocator_of(into), bytes)?;
-    into.extend(text.as_bytes())
-}
-
-/// The allocator of `bytes`.
-fn allocator_of(bytes: &mut Bytes) -> Global
-    ensures { bytes.new ≡ bytes.old }
-{
-    let items = bytes.take();
-    let alloc = *items.allocator();
-    *bytes = Bytes::from_vec(items);
-    alloc
 }
 
 /// Appends a record to `into`: its cells, at least one, separated by commas and quoted where necessary, then a line
@@ -217,8 +179,7 @@ fn push_kind(kind: ColumnKind, text: bool, into: &mut Bytes) -> Result<(), OutOf
 fn push_fixed(size: u32, into: &mut Bytes) -> Result<(), OutOfMemory>
     ensures { OnOk result (into.new ≡ into.old ++ (codes "fixed(" ++ decimal size ++ codes ")")) }
 {
-    let mut buffer = Buffer::new();
     into.extend(b"fixed(")?;
-    into.extend(buffer.format(size).as_bytes())?;
+    push_decimal(into, u64::from(size))?;
     into.extend(b")")
 }

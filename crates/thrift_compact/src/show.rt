@@ -1,13 +1,12 @@
 // The text of a tree.
 ghost use Rattle.std.specs.Prelude.{◌≡◌, ◌∷◌, [], ◌++◌, OnOk, OnErr};
-ghost use Rattle.std.specs.Fmt.{signed_decimal};
 ghost use Rattle.std.specs.Io.{StartsWith};
 ghost use Rattle.hex.specs.Hex.{encode_lower};
 ghost use Rattle.thrift_compact.specs.Text as text;
 ghost use Rattle.thrift_compact.specs.View.{view, list_view, map_view, struct_view};
 
 use crate::tree::{TFields, TList, TMap, TVal};
-use itoa::Buffer;
+use byte_texts::{push_hex, push_signed, push_truth};
 use pme_base::{Bytes, OutOfMemory};
 
 /// Appends the text of a tree to `into`, without a line feed. A struct is `{1: value, 2: value}` with its fields in stored
@@ -21,12 +20,12 @@ pub fn show_tree(value: &TVal, into: &mut Bytes) -> Result<(), OutOfMemory>
 {
     match value {
         TVal::Bool(truth) => push_truth(into, *truth),
-        TVal::I8(number) => push_number(into, i64::from(*number)),
-        TVal::I16(number) => push_number(into, i64::from(*number)),
-        TVal::I32(number) => push_number(into, i64::from(*number)),
-        TVal::I64(number) => push_number(into, *number),
-        TVal::Double(bytes) => push_hex(into, b'd', bytes),
-        TVal::Binary(bytes) => push_hex(into, b'x', bytes.as_slice()),
+        TVal::I8(number) => push_signed(into, i64::from(*number)),
+        TVal::I16(number) => push_signed(into, i64::from(*number)),
+        TVal::I32(number) => push_signed(into, i64::from(*number)),
+        TVal::I64(number) => push_signed(into, *number),
+        TVal::Double(bytes) => push_binary(into, b'd', bytes),
+        TVal::Binary(bytes) => push_binary(into, b'x', bytes.as_slice()),
         TVal::List(list) => show_list(list, b'[', b']', into),
         TVal::Set(set) => show_list(set, b'<', b'>', into),
         TVal::Map(map) => show_map(map, into),
@@ -112,7 +111,7 @@ fn show_field(id: i16, value: &TVal, first: bool, into: &mut Bytes) -> Result<()
     ensures kept { OnErr result (StartsWith into.new into.old) }
 {
     push_comma(into, first)?;
-    push_number(into, i64::from(id))?;
+    push_signed(into, i64::from(id))?;
     into.extend(b": ")?;
     show_tree(value, into)
 }
@@ -125,44 +124,11 @@ fn push_comma(into: &mut Bytes, first: bool) -> Result<(), OutOfMemory>
     if first { Ok(()) } else { into.extend(b", ") }
 }
 
-fn push_truth(into: &mut Bytes, truth: bool) -> Result<(), OutOfMemory>
-    ensures ok { OnOk result (into.new ≡ into.old ++ text.truth_text truth) }
-    ensures kept { OnErr result (into.new ≡ into.old) }
-{
-    if truth {
-        into.extend(b"true")
-    } else {
-        into.extend(b"false")
-    }
-}
-
-fn push_number(into: &mut Bytes, number: i64) -> Result<(), OutOfMemory>
-    ensures ok { OnOk result (into.new ≡ into.old ++ signed_decimal number) }
-    ensures kept { OnErr result (into.new ≡ into.old) }
-{
-    let mut buffer = Buffer::new();
-    into.extend(buffer.format(number).as_bytes())
-}
-
 /// Appends `letter`, and `bytes` in lower-case hex.
-#[tactic(auto, using(std::proofs::Transfers::starts_with_trans), unfolding(hex::specs::Hex::encode_with))]
-fn push_hex(into: &mut Bytes, letter: u8, bytes: &[u8]) -> Result<(), OutOfMemory>
+fn push_binary(into: &mut Bytes, letter: u8, bytes: &[u8]) -> Result<(), OutOfMemory>
     ensures ok { OnOk result (into.new ≡ into.old ++ letter ∷ encode_lower bytes.now) }
     ensures kept { OnErr result (StartsWith into.new into.old) }
 {
     into.push(letter)?;
-    for byte in bytes {
-        push_hex_byte(into, *byte)?;
-    }
-    Ok(())
-}
-
-fn push_hex_byte(into: &mut Bytes, byte: u8) -> Result<(), OutOfMemory>
-    ensures ok { OnOk result (into.new ≡ into.old ++ encode_lower (byte ∷ [])) }
-    ensures kept { OnErr result (into.new ≡ into.old) }
-{
-    let mut digits = [0u8; 2];
-    // One byte has exactly two hex digits, so this call cannot fail.
-    let _ = hex::encode_to_slice(&[byte], &mut digits);
-    into.extend(&digits)
+    push_hex(into, bytes)
 }
