@@ -10,7 +10,7 @@ use Rattle.pme_base.proofs.Chain.{bind_at}
 use Rattle.footer_modes.specs.declared.ends.Ends.{Ends}
 use Rattle.footer_modes.specs.declared.mode.Magic.{Magic}
 use Rattle.footer_modes.specs.declared.mode.Magic.TheVariants.{Pare, Par1}
-use Rattle.footer_modes.specs.Ends.{magic_bytes, known_magic, begins, area_at, ends_within, ends_of, area_of}
+use Rattle.footer_modes.specs.Ends.{magic_bytes, known_magic, check_first_magic, area_at, ends_within, ends_of, area_of}
 use Rattle.footer_modes.specs.Written.{closed}
 
 magic_length : (magic : Magic) → length (magic_bytes magic) ≡ 4
@@ -21,7 +21,7 @@ known_is : (magic : Magic) (at : ℕ) → known_magic at (magic_bytes magic) ≡
 known_is Pare at = refl
 known_is Par1 at = refl
 
-begins_is : (magic : Magic) → begins magic (magic_bytes magic) ≡ Ok tt
+begins_is : (magic : Magic) → check_first_magic magic (magic_bytes magic) ≡ Ok tt
 begins_is Pare = refl
 begins_is Par1 = refl
 
@@ -39,9 +39,9 @@ within_is : (magic : Magic) (size data_end count : ℕ) (front back : List ℕ) 
     → from_le_bytes w32 (take 4 back) ≡ count → size ≡ data_end + (count + 8) → 4 ≤ data_end → nat_lt 16842752 count ≡ false
     → ends_within size front back ≡ Ok (ends_with magic data_end count)
 within_is magic size data_end count front back front_is magic_is count_is size_is room small =
-    let rest = λ (m : Magic). begins m front >>= (λ _. area_at size m (from_le_bytes w32 (take 4 back))) in
+    let rest = λ (m : Magic). check_first_magic m front >>= (λ _. area_at size m (from_le_bytes w32 (take 4 back))) in
     bind_at (known_magic (size - 4) (drop 4 back)) rest magic (ap (known_magic (size - 4)) magic_is ∙ known_is magic (size - 4))
-    ∙ bind_at (begins magic front) (λ _. area_at size magic (from_le_bytes w32 (take 4 back))) tt (ap (begins magic) front_is ∙ begins_is magic)
+    ∙ bind_at (check_first_magic magic front) (λ _. area_at size magic (from_le_bytes w32 (take 4 back))) tt (ap (check_first_magic magic) front_is ∙ begins_is magic)
     ∙ ap (area_at size magic) count_is
     ∙ area_is size magic data_end count size_is room small
 

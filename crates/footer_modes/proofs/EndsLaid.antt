@@ -14,7 +14,7 @@ use Rattle.crypto_module.proofs.Sealed.{below_take}
 use Rattle.footer_modes.specs.declared.ends.Ends.{Ends}
 use Rattle.footer_modes.specs.declared.mode.Magic.{Magic}
 use Rattle.footer_modes.specs.declared.mode.Magic.TheVariants.{Pare, Par1}
-use Rattle.footer_modes.specs.Ends.{magic_bytes, known_magic, begins, area_at, ends_within, ends_of, area_of}
+use Rattle.footer_modes.specs.Ends.{magic_bytes, known_magic, check_first_magic, area_at, ends_within, ends_of, area_of}
 
 abbrev back_of : List ℕ → List ℕ
 back_of bytes = take 8 (drop (length bytes - 8) bytes)
@@ -38,7 +38,7 @@ magic_is at marks magic e =
     magic_by (bytes_eq marks (magic_bytes Pare)) (bytes_eq marks (magic_bytes Par1)) _ magic (λ m. marks ≡ magic_bytes m)
     (bytes_eq-Decides marks (magic_bytes Pare)).0 (bytes_eq-Decides marks (magic_bytes Par1)).0 e
 
-begins_is : (magic : Magic) (front : List ℕ) (u : Unit) → begins magic front ≡ Ok u → front ≡ magic_bytes magic
+begins_is : (magic : Magic) (front : List ℕ) (u : Unit) → check_first_magic magic front ≡ Ok u → front ≡ magic_bytes magic
 begins_is magic front u e = (bytes_eq-Decides front (magic_bytes magic)).0 (tested (bytes_eq front (magic_bytes magic)) tt u _ e).0
 
 -- an area that lies within the file
@@ -76,7 +76,7 @@ ends_are bytes ends e =
     let (long, within) = passed (nat_lt (length bytes) 12) _ _ ends e in
     let twelve : 12 ≤ length bytes = no_less (length bytes) 12 long in
     let (magic, by_last, after_mode) = bind_ok (known_magic (length bytes - 4) (drop 4 (back_of bytes))) _ ends within in
-    let (u, by_first, after_first) = bind_ok (begins magic (take 4 bytes)) _ ends after_mode in
+    let (u, by_first, after_first) = bind_ok (check_first_magic magic (take 4 bytes)) _ ends after_mode in
     let area = at_is (length bytes) magic (from_le_bytes w32 (take 4 (back_of bytes))) ends twelve after_first in
     let same : magic ≡ ends.magic = sym area.magic_is in
     record {
@@ -125,7 +125,7 @@ magic_from : (at : ℕ) (magic : Magic) → known_magic at (magic_bytes magic) �
 magic_from at Pare = refl
 magic_from at Par1 = refl
 
-begins_from : (magic : Magic) → begins magic (magic_bytes magic) ≡ Ok tt
+begins_from : (magic : Magic) → check_first_magic magic (magic_bytes magic) ≡ Ok tt
 begins_from Pare = refl
 begins_from Par1 = refl
 
@@ -163,11 +163,11 @@ ends_from magic before area bytes laid =
     let counted : from_le_bytes w32 (take 4 (back_of bytes)) ≡ length area =
     ap (from_le_bytes w32) field ∙ from_le_bytes-to_le_bytes_4 (length area) (omega (arith, laid.short)) in
     let by_last : known_magic (length bytes - 4) (drop 4 (back_of bytes)) ≡ Ok magic = ap (known_magic (length bytes - 4)) last ∙ magic_from (length bytes - 4) magic in
-    let by_first : begins magic (take 4 bytes) ≡ Ok tt = ap (begins magic) first ∙ begins_from magic in
+    let by_first : check_first_magic magic (take 4 bytes) ≡ Ok tt = ap (check_first_magic magic) first ∙ begins_from magic in
     let at_end : area_at (length bytes) magic (from_le_bytes w32 (take 4 (back_of bytes))) ≡ Ok (record { magic = magic; data_end = length before; area = length area }) =
     ap (area_at (length bytes) magic) counted ∙ area_from (length bytes) magic (length before) (length area) (sym long) four laid.short in
     let within : ends_within (length bytes) (take 4 bytes) (back_of bytes) ≡ Ok (record { magic = magic; data_end = length before; area = length area }) =
-    bind_at (known_magic (length bytes - 4) (drop 4 (back_of bytes))) _ magic by_last ∙ bind_at (begins magic (take 4 bytes)) _ tt by_first ∙ at_end in (
+    bind_at (known_magic (length bytes - 4) (drop 4 (back_of bytes))) _ magic by_last ∙ bind_at (check_first_magic magic (take 4 bytes)) _ tt by_first ∙ at_end in (
       when_false (nat_lt (length bytes) 12) _ _ (not_true (le-ltb (length bytes) 12 (omega (arith, long, four)))) ∙ within,
       ap (take (length area)) after_rows ∙ take_at area back (length area) refl,
     )

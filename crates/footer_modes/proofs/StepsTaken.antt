@@ -11,7 +11,7 @@ use Rattle.footer_modes.specs.declared.head.AreaHead.TheVariants.{Protected, Bar
 use Rattle.footer_modes.specs.declared.mode.Magic.{Magic}
 use Rattle.footer_modes.specs.declared.tail.Tail.{Tail}
 use Rattle.footer_modes.specs.Ends.{ends_of, area_of}
-use Rattle.footer_modes.specs.TailOf.{Asks, head_of, allowed, aad_of, key_of, plain_of, crypto_of, footer_of, protection_of, protected_by, protected_tail, unsupplied, unsealed, bare_by, bare_tail, tail_by, tail_of}
+use Rattle.footer_modes.specs.TailOf.{Asks, head_of, check_algorithm, aad_of, key_of, plain_of, crypto_of, footer_of, protection_of, protected_by, protected_tail, unsupplied, unsealed, bare_by, bare_tail, tail_by, tail_of}
 use Rattle.footer_modes.proofs.EndsLaid.{AreEnds, ends_are}
 
 -- the steps of an encrypted or signed footer
@@ -21,7 +21,7 @@ pub record ProtectedSteps (asks : Asks) (magic : Magic) (data_end : ℕ) (area :
   pub plain : List ℕ
   pub meta : FileMeta
   pub done : Unit {0}
-  pub algorithm_is : allowed asks.gcm_only head.algorithm ≡ Ok done
+  pub algorithm_is : check_algorithm asks.gcm_only head.algorithm ≡ Ok done
   pub aad_is : aad_of head.algorithm asks.prefix ≡ Ok file
   pub key_is : key_of (asks.answer (footer head.metadata)) ≡ Ok key
   pub plain_is : plain_of magic key file (data_end + head.size) head.size area ≡ Ok plain
@@ -52,7 +52,7 @@ pub record StepsTaken (asks : Asks) (bytes : List ℕ) (tail : Tail) : Type 0 wh
 protected_steps : (asks : Asks) (magic : Magic) (data_end : ℕ) (area : List ℕ) (head : Head) (tail : Tail) → protected_tail asks magic data_end area head ≡ Ok tail
     → ProtectedSteps asks magic data_end area head tail
 protected_steps asks magic data_end area head tail e =
-    let (done, by_algorithm, after_algorithm) = bind_ok (allowed asks.gcm_only head.algorithm) _ tail e in
+    let (done, by_algorithm, after_algorithm) = bind_ok (check_algorithm asks.gcm_only head.algorithm) _ tail e in
     let (file, by_aad, after_aad) = bind_ok (aad_of head.algorithm asks.prefix) _ tail after_algorithm in
     let (key, by_key, after_key) = bind_ok (key_of (asks.answer (footer head.metadata))) _ tail after_aad in
     let (plain, by_bytes, after_bytes) = bind_ok (plain_of magic key file (data_end + head.size) head.size area) _ tail after_key in

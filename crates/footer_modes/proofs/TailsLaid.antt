@@ -26,7 +26,7 @@ use Rattle.footer_modes.specs.declared.mode.Magic.TheVariants.{Pare, Par1}
 use Rattle.footer_modes.specs.declared.tail.Protection.{Protection}
 use Rattle.footer_modes.specs.declared.tail.Tail.{Tail}
 use Rattle.footer_modes.specs.Ends.{footer_place, magic_bytes, magic_of, magic_mode, ends_of, area_of}
-use Rattle.footer_modes.specs.TailOf.{Asks, head_of, allowed, within_limit, stored_within, prefix_of, aad_of, key_of, plain_of, crypto_of, footer_of, protection_of, protected_by, unsupplied, are_plain, unsealed, bare_by, area_tail, tail_of}
+use Rattle.footer_modes.specs.TailOf.{Asks, head_of, check_algorithm, within_limit, stored_within, prefix_of, aad_of, key_of, plain_of, crypto_of, footer_of, protection_of, protected_by, unsupplied, are_plain, unsealed, bare_by, area_tail, tail_of}
 use Rattle.footer_modes.specs.IsTail.{IsPrefix, IsFileAad, IsProtected, IsBare, IsFooterArea, IsTail, HasItsMode, sealing_of}
 use Rattle.footer_modes.proofs.AreasLaid.{area_is, area_reads, bare_head_is, bare_reads}
 use Rattle.footer_modes.proofs.EndsLaid.{AreEnds, no_less, below_drop, ends_cut, ends_from, area_length}
@@ -249,7 +249,7 @@ protected_read asks magic tail protection data_end area size mode_is protection_
     let made : Some (protection_of head file key (crypto_of magic laid.front area)) ≡ tail.protection =
     ap (λ crypto. Some (protection_of head file key crypto)) (sym laid.crypto_bytes) ∙ sym protection_is in
     bind_at (head_of asks.allow_plain magic data_end area) _ (Protected head) reads.head
-    ∙ bind_at (allowed asks.gcm_only protection.algorithm) _ tt (when_false (asks.gcm_only && protection.algorithm.ctr) _ _ (never_both asks.gcm_only protection.algorithm.ctr laid.taken))
+    ∙ bind_at (check_algorithm asks.gcm_only protection.algorithm) _ tt (when_false (asks.gcm_only && protection.algorithm.ctr) _ _ (never_both asks.gcm_only protection.algorithm.ctr laid.taken))
     ∙ bind_at (aad_of protection.algorithm asks.prefix) _ file (aad_from protection.algorithm asks.prefix file laid.file_aad)
     ∙ bind_at (key_of (asks.answer (footer laid.metadata))) _ key (ap key_of laid.key)
     ∙ bind_at (plain_of magic key file (data_end + laid.front) laid.front area) _ plain reads.bytes

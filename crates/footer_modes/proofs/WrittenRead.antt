@@ -18,7 +18,7 @@ use Rattle.footer_modes.specs.declared.head.AreaHead.TheVariants.{Protected, Bar
 use Rattle.footer_modes.specs.declared.mode.Magic.{Magic}
 use Rattle.footer_modes.specs.declared.mode.Magic.TheVariants.{Pare, Par1}
 use Rattle.footer_modes.specs.Ends.{footer_place, ends_of, area_of}
-use Rattle.footer_modes.specs.TailOf.{Asks, sealed_head, plain_head, head_of, allowed, aad_of, key_of, signature, checked, plain_of, crypto_of, footer_of, unsupplied, unsealed, bare_by, tail_by, area_tail, tail_of, metadata_by, area_metadata, metadata_of}
+use Rattle.footer_modes.specs.TailOf.{Asks, sealed_head, plain_head, head_of, check_algorithm, aad_of, key_of, signature, checked, plain_of, crypto_of, footer_of, unsupplied, unsealed, bare_by, tail_by, area_tail, tail_of, metadata_by, area_metadata, metadata_of}
 use Rattle.footer_modes.specs.Written.{closed, footer_tag, encrypted_area, signed_area, encrypted_tail, signed_tail, is_too_large}
 use Rattle.footer_modes.specs.WrittenRead.{CanOpen, IsCrypto, IsSigning, tail_with, Begins}
 use Rattle.pme_base.proofs.Chain.{bind_at}
@@ -63,7 +63,7 @@ area_read asks magic data_end area head key file plain is can opens =
     let unlocked = λ (file key : List ℕ). plain_of magic key file (data_end + head.size) head.size area >>= read file key in
     let keyed = λ (file : List ℕ). key_of (asks.answer (footer head.metadata)) >>= unlocked file in
     bind_at (head_of asks.allow_plain magic data_end area) (tail_by asks magic data_end area) (Protected head) is
-    ∙ bind_at (allowed asks.gcm_only head.algorithm) (λ _. aad_of head.algorithm asks.prefix >>= keyed) tt can.takes
+    ∙ bind_at (check_algorithm asks.gcm_only head.algorithm) (λ _. aad_of head.algorithm asks.prefix >>= keyed) tt can.takes
     ∙ bind_at (aad_of head.algorithm asks.prefix) keyed file can.associated
     ∙ bind_at (key_of (asks.answer (footer head.metadata))) (unlocked file) key (ap key_of can.holds)
     ∙ bind_at (plain_of magic key file (data_end + head.size) head.size area) (read file key) plain opens

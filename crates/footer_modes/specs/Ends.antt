@@ -52,8 +52,8 @@ known_magic at bytes =
     else Err (bad_magic at)
 
 -- the first magic must be the last
-abbrev pub begins : Magic → List ℕ → Result Unit Refusal
-begins magic front = if bytes_eq front (magic_bytes magic) then Ok tt else Err (bad_magic 0)
+abbrev pub check_first_magic : Magic → List ℕ → Result Unit Refusal
+check_first_magic magic front = if bytes_eq front (magic_bytes magic) then Ok tt else Err (bad_magic 0)
 
 -- the area of this length ends right before the length field, in a file of this size
 abbrev pub area_at : ℕ → Magic → ℕ → Result Ends Refusal
@@ -66,7 +66,7 @@ area_at size magic count =
 abbrev pub ends_within : ℕ → List ℕ → List ℕ → Result Ends Refusal
 ends_within size front back = do
   magic ← known_magic (size - 4) (drop 4 back)
-  _ ← begins magic front
+  _ ← check_first_magic magic front
   area_at size magic (from_le_bytes w32 (take 4 back))
 
 abbrev pub ends_of : List ℕ → Result Ends Refusal

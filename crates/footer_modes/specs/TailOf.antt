@@ -84,8 +84,8 @@ HeadFits Par1 room (Protected head) = head.size + 28 ≡ room
 HeadFits Par1 room (Bare size) = size ≤ room
 
 -- the reader accepts the algorithm
-abbrev pub allowed : Bool → AlgorithmMeta → Result Unit Refusal
-allowed gcm_only algorithm = if gcm_only && algorithm.ctr then refused AlgorithmRefused Nothing else Ok tt
+abbrev pub check_algorithm : Bool → AlgorithmMeta → Result Unit Refusal
+check_algorithm gcm_only algorithm = if gcm_only && algorithm.ctr then refused AlgorithmRefused Nothing else Ok tt
 
 -- a count is within its limit
 abbrev pub within_limit : ℕ → ℕ → Result Unit Refusal
@@ -169,7 +169,7 @@ protected_by magic data_end head protection plain meta = record {
 -- the tail of an encrypted or signed footer
 abbrev pub protected_tail : Asks → Magic → ℕ → List ℕ → Head → Result Tail Refusal
 protected_tail asks magic data_end area head = do
-  _ ← allowed asks.gcm_only head.algorithm
+  _ ← check_algorithm asks.gcm_only head.algorithm
   file ← aad_of head.algorithm asks.prefix
   key ← key_of (asks.answer (footer head.metadata))
   plain ← plain_of magic key file (data_end + head.size) head.size area

@@ -12,12 +12,12 @@ use Rattle.footer_modes.specs.declared.mode.Magic.{Magic}
 use Rattle.footer_modes.specs.declared.mode.Magic.TheVariants.{Pare, Par1}
 use Rattle.footer_modes.specs.declared.tail.Tail.{Tail}
 use Rattle.footer_modes.specs.Ends.{footer_place, magic_bytes, magic_mode}
-use Rattle.footer_modes.specs.TailOf.{Asks, allowed, aad_of, footer_of, unsealed, bare_by, tail_of, metadata_of}
+use Rattle.footer_modes.specs.TailOf.{Asks, check_algorithm, aad_of, footer_of, unsealed, bare_by, tail_of, metadata_of}
 use Rattle.footer_modes.specs.Written.{closed, encrypted_area, signed_area, encrypted_tail, signed_tail, is_too_large}
 
 -- a reader accepts the algorithm, forms these associated data for the file, and holds this key for the metadata
 pub record CanOpen (asks : Asks) (algorithm : AlgorithmMeta) (metadata : Option (List ℕ)) (key file : List ℕ) : Type 0 where
-  pub takes : allowed asks.gcm_only algorithm ≡ Ok tt
+  pub takes : check_algorithm asks.gcm_only algorithm ≡ Ok tt
   pub associated : aad_of algorithm asks.prefix ≡ Ok file
   pub holds : asks.answer (footer metadata) ≡ Held key
 

@@ -108,7 +108,7 @@ fn known_magic(at: u64, bytes: &[u8]) -> Result<Magic, Refusal>
 
 /// Checks that a file begins with the magic that it ends with.
 fn check_first_magic(magic: Magic, front: &[u8]) -> Result<(), Refusal>
-    ensures answer { result ≡ defined.begins magic front.now }
+    ensures answer { result ≡ defined.check_first_magic magic front.now }
     ensures whole { IfErr result (λ refusal. refusal.cause ≡ Truncated → ⊥) }
     ensures quiet { Quiet result }
     ensures causes { CausedBy is_ends_cause result }

@@ -299,7 +299,7 @@ fn copy_of(alloc: Global, bytes: &[u8]) -> Result<Bytes, Refusal>
 
 /// Refuses AES_GCM_CTR_V1 where the reader accepts AES_GCM_V1 alone.
 fn check_algorithm(gcm_only: bool, algorithm: &AlgorithmMeta) -> Result<(), Refusal>
-    ensures answer { result ≡ defined.allowed gcm_only algorithm.now }
+    ensures answer { result ≡ defined.check_algorithm gcm_only algorithm.now }
     ensures quiet { Quiet result }
     ensures causes { IfErr result (λ refusal. refusal.cause ≡ AlgorithmRefused) }
 {

@@ -104,11 +104,11 @@ fn extend_by_encrypted(
         ≡ into.old ++ defined.encrypted_tail key.now aad.now nonce.now crypto.now footer.now) }
     ensures kept { OnErr result (take (length into.old) into.new ≡ into.old) }
 {
-    added(crypto, into)?;
+    append(crypto, into)?;
     write_footer(key, aad, nonce, footer, into)?;
     let length = (crypto.len() + MODULE_OVERHEAD + footer.len()) as u32;
-    added(&length.to_le_bytes(), into)?;
-    added(b"PARE", into)
+    append(&length.to_le_bytes(), into)?;
+    append(b"PARE", into)
 }
 
 /// Appends a footer as a sealed module.
@@ -131,7 +131,7 @@ fn write_footer(
 }
 
 /// Appends `more`.
-fn added(more: &[u8], into: &mut Bytes) -> Result<(), ModuleRefusal>
+fn append(more: &[u8], into: &mut Bytes) -> Result<(), ModuleRefusal>
     ensures free { IsErrOf result ModuleRefusal.TooLarge → ⊥ }
     ensures appended { OnOk result (into.new ≡ into.old ++ more.now) }
     ensures unchanged { OnErr result (into.new ≡ into.old) }

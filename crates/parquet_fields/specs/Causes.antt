@@ -18,7 +18,7 @@ use Rattle.parquet_fields.specs.declared.page_parts.DictionaryCounts.{Dictionary
 use Rattle.parquet_fields.specs.Fields.{Checked, binary_of, truth_of, int16_of, int32_of, int64_of, of_checked, struct_of, onto_items, items_of, list_of, pick, under, optional, needed}
 use Rattle.parquet_fields.specs.Structs.{aes_gcm, one_algorithm, algorithm, file_crypto, schema_element, column_meta, column_key, footer_key, one_key, column_crypto, column_chunk, row_group, raw_file_meta, signing_with, signing, data_counts, dictionary_counts, data_page, dictionary_page, page_of_type, page_head}
 
--- the causes of a field's refusal, and those of a struct's
+-- the causes with which a field can be refused, and a struct
 abbrev pub is_field_cause : Cause → Bool
 is_field_cause MissingField = true
 is_field_cause BadField = true
@@ -34,40 +34,40 @@ abbrev pub CheckedCause : {X : Type 0} → Checked X → Type 0
 CheckedCause (Ok x) = Unit {0}
 CheckedCause (Err r) = is_field_cause r.cause ≡ true
 
-abbrev pub MetCause : {X : Type 0} → FieldState X → Type 0
-MetCause (Refused r) = is_field_cause r.cause ≡ true
-MetCause _ = Unit {0}
+abbrev pub StateCause : {X : Type 0} → FieldState X → Type 0
+StateCause (Refused r) = is_field_cause r.cause ≡ true
+StateCause _ = Unit {0}
 
 -- Values.
-binary_causes : (t : Tree) → MetCause (binary_of t)
+binary_causes : (t : Tree) → StateCause (binary_of t)
 binary_causes (binary bytes) = tt
 binary_causes _ = tt
 
-truth_causes : (t : Tree) → MetCause (truth_of t)
+truth_causes : (t : Tree) → StateCause (truth_of t)
 truth_causes (truth b) = tt
 truth_causes _ = tt
 
-int16_causes : (t : Tree) → MetCause (int16_of t)
+int16_causes : (t : Tree) → StateCause (int16_of t)
 int16_causes (int16 z) = tt
 int16_causes _ = tt
 
-int32_causes : (t : Tree) → MetCause (int32_of t)
+int32_causes : (t : Tree) → StateCause (int32_of t)
 int32_causes (int32 z) = tt
 int32_causes _ = tt
 
-int64_causes : (t : Tree) → MetCause (int64_of t)
+int64_causes : (t : Tree) → StateCause (int64_of t)
 int64_causes (int64 z) = tt
 int64_causes _ = tt
 
-of_checked_causes : {X : Type 0} (r : Checked X) → CheckedCause r → MetCause (of_checked r)
+of_checked_causes : {X : Type 0} (r : Checked X) → CheckedCause r → StateCause (of_checked r)
 of_checked_causes (Ok x) causes = tt
 of_checked_causes (Err r) causes = causes
 
-struct_causes : {X : Type 0} (checked : Fields → Checked X) → ((fs : Fields) → CheckedCause (checked fs)) → (t : Tree) → MetCause (struct_of checked t)
+struct_causes : {X : Type 0} (checked : Fields → Checked X) → ((fs : Fields) → CheckedCause (checked fs)) → (t : Tree) → StateCause (struct_of checked t)
 struct_causes checked causes (struct fs) = of_checked_causes (checked fs) (causes fs)
 struct_causes checked causes _ = tt
 
-onto_causes : {X : Type 0} (x : FieldState X) (xs : FieldState (List X)) → MetCause x → MetCause xs → MetCause (onto_items x xs)
+onto_causes : {X : Type 0} (x : FieldState X) (xs : FieldState (List X)) → StateCause x → StateCause xs → StateCause (onto_items x xs)
 onto_causes (Value x) (Value xs) one others = tt
 onto_causes (Value x) Absent one others = tt
 onto_causes (Value x) WrongType one others = tt
@@ -76,20 +76,20 @@ onto_causes (Refused r) xs one others = one
 onto_causes Absent xs one others = tt
 onto_causes WrongType xs one others = tt
 
-items_causes : {X : Type 0} (item : Tree → FieldState X) → ((t : Tree) → MetCause (item t)) → (ts : Trees) → MetCause (items_of item ts)
+items_causes : {X : Type 0} (item : Tree → FieldState X) → ((t : Tree) → StateCause (item t)) → (ts : Trees) → StateCause (items_of item ts)
 items_causes item causes no_trees = tt
 items_causes item causes (tree t ts) = onto_causes (item t) (items_of item ts) (causes t) (items_causes item causes ts)
 
-list_causes : {X : Type 0} (item : Tree → FieldState X) → ((t : Tree) → MetCause (item t)) → (t : Tree) → MetCause (list_of item t)
+list_causes : {X : Type 0} (item : Tree → FieldState X) → ((t : Tree) → StateCause (item t)) → (t : Tree) → StateCause (list_of item t)
 list_causes item causes (list ts) = items_causes item causes ts
 list_causes item causes _ = tt
 
 -- Fields.
-one_of_causes : {X : Type 0} (b : Bool) (x y : FieldState X) → MetCause x → MetCause y → MetCause (if b then x else y)
+one_of_causes : {X : Type 0} (b : Bool) (x y : FieldState X) → StateCause x → StateCause y → StateCause (if b then x else y)
 one_of_causes true x y one other = one
 one_of_causes false x y one other = other
 
-under_causes : {X : Type 0} (value : Tree → FieldState X) (number : ℤ) (before : FieldState X) (fs : Fields) → ((t : Tree) → MetCause (value t)) → MetCause before → MetCause (under value number before fs)
+under_causes : {X : Type 0} (value : Tree → FieldState X) (number : ℤ) (before : FieldState X) (fs : Fields) → ((t : Tree) → StateCause (value t)) → StateCause before → StateCause (under value number before fs)
 under_causes value number before no_fields causes first = first
 under_causes value number before (field id t fs) causes first = under_causes value number (pick value number id t before) fs causes (one_of_causes (same_id id number) (value t) before (causes t) first)
 
@@ -97,23 +97,23 @@ step_causes : {X Y : Type 0} (r : Checked X) (next : X → Checked Y) → Checke
 step_causes (Ok x) next one others = others x
 step_causes (Err r) next one others = one
 
-optional_causes : {X : Type 0} (called : StructName) (number : ℤ) (state : FieldState X) → MetCause state → CheckedCause (optional called number state)
+optional_causes : {X : Type 0} (called : StructName) (number : ℤ) (state : FieldState X) → StateCause state → CheckedCause (optional called number state)
 optional_causes called number Absent causes = tt
 optional_causes called number WrongType causes = refl
 optional_causes called number (Refused r) causes = causes
 optional_causes called number (Value x) causes = tt
 
-needed_causes : {X : Type 0} (called : StructName) (number : ℤ) (state : FieldState X) → MetCause state → CheckedCause (needed called number state)
+needed_causes : {X : Type 0} (called : StructName) (number : ℤ) (state : FieldState X) → StateCause state → CheckedCause (needed called number state)
 needed_causes called number Absent causes = refl
 needed_causes called number WrongType causes = refl
 needed_causes called number (Refused r) causes = causes
 needed_causes called number (Value x) causes = tt
 
-optional_then : {X Y : Type 0} (called : StructName) (number : ℤ) (value : Tree → FieldState X) (fs : Fields) (next : Option X → Checked Y) → ((t : Tree) → MetCause (value t)) → ((x : Option X) → CheckedCause (next x)) → CheckedCause (optional called number (under value number Absent fs) >>= next)
+optional_then : {X Y : Type 0} (called : StructName) (number : ℤ) (value : Tree → FieldState X) (fs : Fields) (next : Option X → Checked Y) → ((t : Tree) → StateCause (value t)) → ((x : Option X) → CheckedCause (next x)) → CheckedCause (optional called number (under value number Absent fs) >>= next)
 optional_then called number value fs next causes others =
     step_causes (optional called number (under value number Absent fs)) next (optional_causes called number (under value number Absent fs) (under_causes value number Absent fs causes tt)) others
 
-needed_then : {X Y : Type 0} (called : StructName) (number : ℤ) (value : Tree → FieldState X) (fs : Fields) (next : X → Checked Y) → ((t : Tree) → MetCause (value t)) → ((x : X) → CheckedCause (next x)) → CheckedCause (needed called number (under value number Absent fs) >>= next)
+needed_then : {X Y : Type 0} (called : StructName) (number : ℤ) (value : Tree → FieldState X) (fs : Fields) (next : X → Checked Y) → ((t : Tree) → StateCause (value t)) → ((x : X) → CheckedCause (next x)) → CheckedCause (needed called number (under value number Absent fs) >>= next)
 needed_then called number value fs next causes others =
     step_causes (needed called number (under value number Absent fs)) next (needed_causes called number (under value number Absent fs) (under_causes value number Absent fs causes tt)) others
 

@@ -369,7 +369,7 @@ fn shown(alloc: Global, read: Result<Tail, Refusal>) -> Result<String, Fail> {
 }
 
 /// The answer for the file of a line, read with this key finder.
-fn told_by<K: KeyFinder>(
+fn answer_by<K: KeyFinder>(
     alloc: Global,
     line: &str,
     files: &mut MemFiles,
@@ -395,27 +395,27 @@ fn told_by<K: KeyFinder>(
 }
 
 /// The answer for the file of a line.
-fn told(alloc: Global, line: &str) -> Result<String, Fail> {
+fn answer_for(alloc: Global, line: &str) -> Result<String, Fail> {
     let mut files = MemFiles::new(alloc);
     if let Some(file) = file_of(alloc, line)? {
         files.store("f", file.as_slice())?;
     }
     if let Some(name) = setting(line, "key refused") {
         let fault = KeyFault::of_name(name).ok_or("fault")?;
-        return told_by(alloc, line, &mut files, &mut RefusingFinder { fault });
+        return answer_by(alloc, line, &mut files, &mut RefusingFinder { fault });
     }
     let keys = match setting(line, "no keys") {
         Some(_) => b"{}".as_slice(),
         None => KEYS,
     };
     let mut finder = IdKeys::parse(alloc, keys)?;
-    told_by(alloc, line, &mut files, &mut finder)
+    answer_by(alloc, line, &mut files, &mut finder)
 }
 
 fn check<R: Abort + AllocGlobal>(rt: &R, case: &str) -> Result<(), Fail> {
     let (line, answer) = case.split_once(": ").ok_or("answer")?;
     assert_eq!(rt; unknown_setting(line), None, "{line}");
-    let text = told(rt.alloc(), line)?;
+    let text = answer_for(rt.alloc(), line)?;
     assert_eq!(rt; text.as_str(), answer, "{line}");
     Ok(())
 }
