@@ -91,28 +91,41 @@ impl From<OutOfMemory> for PolicyRefusal {
 
 impl Policy {
     /// Parses a policy: a JSON object with the names of `docs/FORMAT.md`. If a name is repeated, its last value counts.
-    #[tactic(auto, unfolding(crate::specs::PolicyText::policy_of_text))]
+    #[tactic(auto, using(crate::proofs::Kept::policies_keep_rules))]
     pub fn parse(alloc: Global, bytes: &[u8]) -> Result<Policy, PolicyRefusal>
         ensures ok { IfOk result (λ policy. text.policy_of_text bytes.now ≡ Ok policy) }
         ensures err { IfErr result (text.IsRefusalOf (text.policy_of_text bytes.now)) }
         ensures rules { IfOk result KeepsRules }
         ensures order { IfSome (object_of bytes.now) AreInByteOrder }
     {
-        let Some(value) = read_json(alloc, bytes)? else {
-            return Err(PolicyRefusal::Bad(Bytes::new(alloc)));
-        };
-        let Some(members) = value.as_object() else {
-            return Err(PolicyRefusal::Bad(Bytes::new(alloc)));
-        };
-        if let Some(name) = first_bad_name(members, is_uniform(&value)) {
-            return Err(bad_name(alloc, name));
+        match policy_of_text(alloc, bytes) {
+            Ok(policy) => Ok(policy),
+            Err(refusal) => Err(refusal),
         }
-        let Some(id) = footer_id(&value) else {
-            return Err(bad_name(alloc, FOOTER_KEY));
-        };
-        let policy = settings(alloc, &value, id)?;
-        Ok(policy)
     }
+}
+
+// The policy of a text. That it keeps the rules follows from its definition.
+#[tactic(auto, unfolding(crate::specs::PolicyText::policy_of_text))]
+fn policy_of_text(alloc: Global, bytes: &[u8]) -> Result<Policy, PolicyRefusal>
+    ensures ok { IfOk result (λ policy. text.policy_of_text bytes.now ≡ Ok policy) }
+    ensures err { IfErr result (text.IsRefusalOf (text.policy_of_text bytes.now)) }
+    ensures order { IfSome (object_of bytes.now) AreInByteOrder }
+{
+    let Some(value) = read_json(alloc, bytes)? else {
+        return Err(PolicyRefusal::Bad(Bytes::new(alloc)));
+    };
+    let Some(members) = value.as_object() else {
+        return Err(PolicyRefusal::Bad(Bytes::new(alloc)));
+    };
+    if let Some(name) = first_bad_name(members, is_uniform(&value)) {
+        return Err(bad_name(alloc, name));
+    }
+    let Some(id) = footer_id(&value) else {
+        return Err(bad_name(alloc, FOOTER_KEY));
+    };
+    let policy = settings(alloc, &value, id)?;
+    Ok(policy)
 }
 
 fn first_bad_name(members: &Map<String, Value>, uniform: bool) -> Option<&str>
